@@ -2,9 +2,10 @@
 ghost use Rattle.std.specs.Prelude.{◌≡◌, ◌<◌};
 
 use bim_model::{
-    Author, Bytes, ClassTest, Duplicate, Element, ElementKey, Extent, FARTHEST, Found, Guid, Items,
-    Model, ModelTest, Moment, NamedModel, Pair, Point, Rule, RuleKind, Rules, Shared, Snapshot,
-    Steps, StoreyTest, Text, Triangle, extent_of, greatest_distance, id_of, rule_of, serial_of,
+    Author, Bytes, ClassTest, Distance, Duplicate, Element, ElementKey, Extent, FARTHEST, Found,
+    Guid, Items, Meeting, Model, ModelTest, Moment, NamedModel, Pair, Point, Rule, RuleKind, Rules,
+    Shared, Snapshot, Steps, StoreyTest, Text, Triangle, extent_of, greatest_distance, id_of,
+    rule_of, serial_of,
 };
 use std::alloc::{AllocError, Global};
 use std::marker::Brand;
@@ -204,7 +205,9 @@ fn one_rule(alloc: Global) -> Result<Rules, AllocError> {
         storey: StoreyTest::Any,
         level: None,
         models: ModelTest::Other,
-        kind: RuleKind::Clash { distance: 7 },
+        kind: RuleKind::Clash {
+            distance: Distance::new(7),
+        },
     })?;
     Ok(Rules::from_vec(list))
 }
@@ -217,11 +220,12 @@ fn a_rule_is_found(rt: HostRuntime) -> Result<(), Fail> {
     let b = element(alloc, guid("0000000000000000000002")?, 1)?;
     let wanted = Found {
         rule: 0,
-        distance: 7,
+        meeting: Meeting::Within,
+        distance: Distance::new(7),
     };
     assert_eq!(rt; rule_of(&rules, &a, &b, false), Some(wanted));
     assert_eq!(rt; rule_of(&rules, &a, &b, true), None);
-    assert_eq!(rt; greatest_distance(&rules), 7);
+    assert_eq!(rt; greatest_distance(&rules).millimetres(), 7);
     Ok(())
 }
 

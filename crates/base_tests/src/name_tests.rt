@@ -1,6 +1,6 @@
 //! Names that have the form, and texts that lack it by a length or a character.
 
-use model_names::is_model_name;
+use bim_model::is_model_name;
 use std::test::Fail;
 
 #[test]

@@ -1,10 +1,10 @@
 -- What the status of a command says of files and of the sink.
 use Rattle.std.proofs.Common.{◌≡◌, ℕ, List, Bool, true, false, Ok, Option, Some, None, inr, refl, sym, subst, arith}
 use Rattle.bim_io.specs.Causes.{Rose, ComesOfFault}
-use Rattle.bim_io.specs.Seen.{SinkSeen}
+use Rattle.bim_io.specs.StreamViews.{SinkSeen}
 use Rattle.bim_files.specs.Files.{FilesSeen}
 use Rattle.bim_model.specs.Snapshots.{Version}
-use Rattle.model_generator.specs.Files.{generated}
+use Rattle.model_generator.specs.GeneratedFiles.{generated}
 use Rattle.batch_commands.specs.declared.check_words.CheckWords.{CheckWords}
 use Rattle.batch_commands.specs.declared.generate_words.GenerateWords.{GenerateWords}
 use Rattle.batch_commands.specs.declared.refusal.Refusal.{Refusal}
@@ -12,8 +12,8 @@ use Rattle.batch_commands.specs.declared.refusal.JudgeError.{JudgeError}
 use Rattle.batch_commands.specs.declared.refusal.JudgeError.TheVariants.{Refused, File, Memory}
 use Rattle.batch_commands.specs.Judging.{Ends, Finds}
 use Rattle.batch_commands.specs.Reports.{found_bytes, refusal_line}
-use Rattle.batch_commands.specs.Writes.{Prints}
-use Rattle.batch_commands.specs.Commands.{AnswersError, Checks, Generates, GeneratesAs, GeneratesBy, IsSummary}
+use Rattle.batch_commands.specs.PrintedOutput.{Prints}
+use Rattle.batch_commands.specs.BatchCommands.{AnswersError, Checks, Generates, GeneratesAs, GeneratesBy, IsSummary}
 use Rattle.batch_commands.proofs.Blocks.{no_fault, prints_not_four, prints_rose}
 
 -- ---- check

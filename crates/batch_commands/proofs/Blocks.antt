@@ -2,12 +2,12 @@
 use Rattle.std.proofs.Common.{◌≡◌, ℕ, List, [], ◌++◌, Result, Ok, Err, inl, inr, refl, sym, ◌∙◌, ap, append_assoc, append-nil, subst, arith}
 use Rattle.std.specs.Prelude.{IsErrAnd}
 use Rattle.bim_io.specs.Causes.{Rose, ComesOfFault}
-use Rattle.bim_io.specs.Seen.{SinkSeen, SinkTakes}
+use Rattle.bim_io.specs.StreamViews.{SinkSeen, SinkTakes}
 use Rattle.bim_io.proofs.Calls.{takes_none, takes_trans}
 use Rattle.batch_commands.specs.declared.block.Stop.{Stop}
 use Rattle.batch_commands.specs.declared.block.Stop.TheVariants.{Write, Memory}
 use Rattle.bim_io.specs.Writes.{WritesLess}
-use Rattle.batch_commands.specs.Writes.{WritesFront, Stops, Flushes, Puts, Prints, status_of, stop_status}
+use Rattle.batch_commands.specs.PrintedOutput.{WritesFront, Stops, Flushes, Puts, Prints, status_of, stop_status}
 
 -- what a `?` returns
 pub residual : {A E : Type 0} (r : Result A E) (e : E) → IsErrAnd r (λ x. x ≡ e) → r ≡ Err e

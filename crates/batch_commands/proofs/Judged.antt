@@ -9,10 +9,10 @@ use Rattle.bim_model.specs.declared.upload.UploadFault.{UploadFault}
 use Rattle.bim_model.specs.Snapshots.{Version, with_model}
 use Rattle.bim_io.specs.Causes.{Rose}
 use Rattle.bim_files.specs.Files.{FilesTold, FilesSeen, Holds, Tells, content_of, judged}
-use Rattle.bim_files.specs.Reading.{FileEnds}
+use Rattle.bim_files.specs.FileReading.{FileEnds}
 use Rattle.bim_files.specs.declared.front.FileError.{FileError}
 use Rattle.bim_files.specs.declared.front.FileError.TheVariants as file
-use Rattle.clash_check.specs.Versions.{IsVersionFault}
+use Rattle.clash_check.specs.VersionChecks.{IsVersionFault}
 use Rattle.clash_check.specs.declared.version_fault.VersionFault.{VersionFault}
 use Rattle.batch_commands.specs.declared.check_words.ModelWord.{ModelWord}
 use Rattle.batch_commands.specs.declared.check_words.CheckWords.{CheckWords}

@@ -1,9 +1,9 @@
 -- What was put of the pieces of a file.
 use Rattle.std.proofs.Common.{◌≡◌, ℕ, List, [], ◌++◌, Ok, refl, sym, ◌∙◌, ap, append_assoc, append-nil, subst}
-use Rattle.bim_io.specs.Seen.{SinkSeen}
+use Rattle.bim_io.specs.StreamViews.{SinkSeen}
 use Rattle.batch_commands.specs.declared.block.Stop.{Stop}
 use Rattle.batch_commands.specs.declared.block.Stop.TheVariants.{Memory}
-use Rattle.batch_commands.specs.Writes.{Puts, Stops, WritesFront}
+use Rattle.batch_commands.specs.PrintedOutput.{Puts, Stops, WritesFront}
 use Rattle.batch_commands.proofs.Blocks.{put_more, put_none, put_stopped, put_wanting}
 
 -- a front of the whole was put, and the rest is left

@@ -1,6 +1,6 @@
 -- The two commands are plain: what a parse finds in words is known.
 use Rattle.std.proofs.Common.{refl}
-use Rattle.command_words.specs.Words.{IsPlainCommand}
+use Rattle.command_words.specs.CommandOptions.{IsPlainCommand}
 use Rattle.batch_commands.specs.CheckWords.{check_command}
 use Rattle.batch_commands.specs.GenerateWords.{generate_command}
 

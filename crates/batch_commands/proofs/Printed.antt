@@ -3,14 +3,14 @@ use Rattle.std.proofs.Common.{◌≡◌, ℕ, ◌+◌, ◌<◌, List, [], ◌∷
 use Rattle.std.proofs.lemmas.List.{take_more, take-append-drop}
 use Rattle.std.proofs.lemmas.Grind.{flat_map-append}
 use Rattle.std.specs.Fmt.{decimal}
-use Rattle.bim_io.specs.Seen.{SinkSeen}
+use Rattle.bim_io.specs.StreamViews.{SinkSeen}
 use Rattle.bim_model.specs.Snapshots.{Version}
 use Rattle.bucket_check.specs.declared.pair.SetPair.{SetPair}
 use Rattle.clash_publish.specs.Listed.{element_of}
 use Rattle.batch_commands.specs.declared.block.Stop.{Stop}
 use Rattle.batch_commands.specs.declared.block.Stop.TheVariants.{Memory}
 use Rattle.batch_commands.specs.Reports.{clash_line, clash_lines}
-use Rattle.batch_commands.specs.Writes.{Puts, Stops, WritesFront}
+use Rattle.batch_commands.specs.PrintedOutput.{Puts, Stops, WritesFront}
 use Rattle.batch_commands.proofs.Blocks.{put_more, put_stopped, put_wanting}
 
 -- a line by its words

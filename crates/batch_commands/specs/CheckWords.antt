@@ -5,10 +5,10 @@ use Rattle.std.specs.Prelude.{Option, Some, None, option_map, option_and_then}
 use Rattle.std.specs.List.{list_any, before_first, after_first, position_or_len}
 use Rattle.std.specs.Str.{bytes_eq}
 use Rattle.clap.specs.Words.{App, Row, with_rule, first_of, all_of}
-use Rattle.model_names.specs.Names.{is_model_name}
+use Rattle.bim_model.specs.Names.{is_model_name}
 use Rattle.bim_model.specs.declared.upload.Mode.{Mode}
 use Rattle.bim_model.specs.declared.upload.Mode.TheVariants.{Exact, Snap}
-use Rattle.command_words.specs.Words.{bare_command, option_of, list_of, said_by}
+use Rattle.command_words.specs.CommandOptions.{bare_command, option_of, list_of, said_by}
 use Rattle.batch_commands.specs.declared.check_words.TheConstants.{MOST_MODELS}
 use Rattle.batch_commands.specs.declared.check_words.ModelWord.{ModelWord}
 use Rattle.batch_commands.specs.declared.check_words.CheckWords.{CheckWords}

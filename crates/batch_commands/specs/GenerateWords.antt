@@ -2,8 +2,8 @@
 use Rattle.std.specs.Prelude.{ℕ, ◌-◌, ◌^◌, Bool, false, List, Option, Some, None, codes}
 use Rattle.std.specs.Str.{bytes_eq}
 use Rattle.clap.specs.Words.{App, Row, with_rule, first_of}
-use Rattle.command_words.specs.Numbers.{number_word}
-use Rattle.command_words.specs.Words.{bare_command, option_of, flag_of, said_by}
+use Rattle.command_words.specs.NumberWords.{number_word}
+use Rattle.command_words.specs.CommandOptions.{bare_command, option_of, flag_of, said_by}
 use Rattle.model_generator.specs.declared.pieces.TheConstants.{MOST_GENERATED}
 use Rattle.batch_commands.specs.declared.generate_words.GenerateWords.{GenerateWords}
 

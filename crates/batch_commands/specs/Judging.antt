@@ -11,7 +11,7 @@ use Rattle.bim_files.specs.Files.{FilesTold, FilesSeen, Holds, Tells}
 use Rattle.bim_files.specs.declared.front.FileError.{FileError}
 use Rattle.bim_files.specs.declared.front.FileError.TheVariants as file
 use Rattle.model_build.specs.Profile.{Profile}
-use Rattle.clash_check.specs.Versions.{IsVersionFault, IsChecked}
+use Rattle.clash_check.specs.VersionChecks.{IsVersionFault, IsChecked}
 use Rattle.clash_check.specs.declared.version_fault.VersionFault.{VersionFault}
 use Rattle.batch_commands.specs.declared.check_words.ModelWord.{ModelWord}
 use Rattle.batch_commands.specs.declared.check_words.CheckWords.{CheckWords}

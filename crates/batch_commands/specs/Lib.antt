@@ -1,8 +1,8 @@
 pub mod CheckWords
 pub mod GenerateWords
 pub mod RulesFile
-pub mod Faults
-pub mod Writes
+pub mod FaultMessages
+pub mod PrintedOutput
 pub mod Judging
 pub mod Reports
-pub mod Commands
+pub mod BatchCommands

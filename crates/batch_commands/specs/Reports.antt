@@ -9,7 +9,7 @@ use Rattle.bucket_check.specs.Clashes.{clashes}
 use Rattle.clash_publish.specs.Listed.{element_of}
 use Rattle.batch_commands.specs.declared.refusal.Refusal.{Refusal}
 use Rattle.batch_commands.specs.declared.refusal.Refusal.TheVariants.{Rules, Model, Version as TooLarge}
-use Rattle.batch_commands.specs.Faults.{rules_words, upload_words, version_words}
+use Rattle.batch_commands.specs.FaultMessages.{rules_words, upload_words, version_words}
 
 -- an element, the name of its model and its identifier, before other words
 abbrev pub key_before : Subject → List ℕ → List ℕ

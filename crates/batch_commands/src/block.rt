@@ -1,6 +1,6 @@
 //! Writing in blocks.
 ghost use Rattle.std.specs.Prelude.{◌≡◌, [], OnOk};
-ghost use Rattle.batch_commands.specs.Writes.{Puts, Flushes};
+ghost use Rattle.batch_commands.specs.PrintedOutput.{Puts, Flushes};
 
 use bim_io::{Sink, write_whole};
 use std::alloc::{AllocError, Global};

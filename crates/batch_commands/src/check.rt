@@ -3,8 +3,8 @@ ghost use Rattle.std.specs.Prelude.{◌≡◌};
 ghost use Rattle.bim_io.specs.Causes.{Rose, ComesOfFault};
 ghost use Rattle.batch_commands.specs.CheckWords.{check_words};
 ghost use Rattle.batch_commands.specs.Reports.{found_bytes, refusal_line};
-ghost use Rattle.batch_commands.specs.Writes.{Prints};
-ghost use Rattle.batch_commands.specs.Commands.{AnswersError, ChecksBy, Checks};
+ghost use Rattle.batch_commands.specs.PrintedOutput.{Prints};
+ghost use Rattle.batch_commands.specs.BatchCommands.{AnswersError, ChecksBy, Checks};
 
 use crate::check_words::{CheckWords, check_words};
 use crate::judge::judge;

@@ -6,10 +6,9 @@ ghost use Rattle.clap.specs.Words.{app_of, found_of, rows_of};
 ghost use Rattle.batch_commands.specs.declared.check_words.TheConstants.{MOST_MODELS};
 ghost use Rattle.batch_commands.specs.CheckWords.{model_word, all_some, names_differ, if_differ, if_models, mode_said, all_said, check_command, check_said, check_words};
 
-use bim_model::{Items, Mode, Text};
+use bim_model::{Items, Mode, Text, is_model_name};
 use clap::{ArgMatches, Command};
 use command_words::{is_word, lent_words, parse, plain_command, with_list, with_option};
-use model_names::is_model_name;
 use std::alloc::{AllocError, Global};
 
 /// The most models that are checked together.

@@ -1,19 +1,19 @@
 //! The command `generate`.
 ghost use Rattle.std.specs.Prelude.{◌≡◌, ◌≤◌, string_bytes, Some, IfOk};
 ghost use Rattle.bim_io.specs.Causes.{Rose};
-ghost use Rattle.model_generator.specs.Files.{generated};
+ghost use Rattle.model_generator.specs.GeneratedFiles.{generated};
 ghost use Rattle.model_generator.specs.declared.pieces.TheConstants.{MOST_GENERATED};
 ghost use Rattle.batch_commands.specs.GenerateWords.{generate_words};
-ghost use Rattle.batch_commands.specs.Commands.{touching, version_of, numbers_text, summary_of, IsSummary, Generates};
-ghost use Rattle.batch_commands.specs.Writes.{Flushes, Prints, Puts};
+ghost use Rattle.batch_commands.specs.BatchCommands.{touching, version_of, numbers_text, summary_of, IsSummary, Generates};
+ghost use Rattle.batch_commands.specs.PrintedOutput.{Flushes, Prints, Puts};
 
 use crate::block::{Stop, flush, put, write_bytes};
 use crate::generate_words::{GenerateWords, generate_words};
 use crate::statuses::{NO_MEMORY, print_usage, printed};
 use bim_io::Sink;
 use bim_model::{
-    Bytes, ClassTest, Mode, Model, ModelTest, NamedModel, Rule, RuleKind, Rules, Shared, Snapshot,
-    StoreyTest, Text,
+    Bytes, ClassTest, Distance, Mode, Model, ModelTest, NamedModel, Rule, RuleKind, Rules, Shared,
+    Snapshot, StoreyTest, Text,
 };
 use clash_check::clashes_of;
 use model_build::build_owned;
@@ -76,7 +76,9 @@ fn touching(alloc: Global) -> Result<Rules, AllocError>
         storey: StoreyTest::Any,
         level: None,
         models: ModelTest::Any,
-        kind: RuleKind::Clash { distance: 0 },
+        kind: RuleKind::Clash {
+            distance: Distance::new(0),
+        },
     })?;
     Ok(Rules::from_vec(list))
 }

@@ -1,6 +1,6 @@
 //! What is printed of a refusal.
 ghost use Rattle.std.specs.Prelude.{◌≡◌, string_bytes, IfOk};
-ghost use Rattle.batch_commands.specs.Faults.{upload_words, rules_words, version_words};
+ghost use Rattle.batch_commands.specs.FaultMessages.{upload_words, rules_words, version_words};
 
 use crate::rules_file::RulesFault;
 use bim_model::UploadFault;

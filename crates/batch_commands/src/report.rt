@@ -3,7 +3,7 @@ ghost use Rattle.std.specs.Prelude.{◌≡◌, string_bytes, IfOk};
 ghost use Rattle.bucket_check.specs.Clashes.{clashes};
 ghost use Rattle.clash_publish.specs.Listed.{IsClash};
 ghost use Rattle.batch_commands.specs.Reports.{clash_line, count_line, clash_lines, found_bytes, refusal_line};
-ghost use Rattle.batch_commands.specs.Writes.{Flushes, Puts};
+ghost use Rattle.batch_commands.specs.PrintedOutput.{Flushes, Puts};
 
 use crate::block::{Stop, flush, put, write_bytes};
 use crate::refusal::Refusal;

@@ -1,6 +1,6 @@
 //! Exit statuses, and the usage line.
 ghost use Rattle.std.specs.Prelude.{◌≡◌};
-ghost use Rattle.batch_commands.specs.Writes.{status_of, PrintsUsage};
+ghost use Rattle.batch_commands.specs.PrintedOutput.{status_of, PrintsUsage};
 
 use crate::block::Stop;
 use bim_io::{Sink, write_whole};

@@ -13,11 +13,11 @@ use Rattle.bcf_viewpoints.specs.declared.component.Component.{Component}
 use Rattle.bcf_viewpoints.specs.declared.component.Coloring.{Coloring}
 use Rattle.bcf_viewpoints.specs.declared.view.ViewBody.{ViewBody}
 use Rattle.bcf_viewpoints.specs.Components.{IsComponent, IsColoring}
-use Rattle.bcf_viewpoints.specs.Views.{IsViewBody}
+use Rattle.bcf_viewpoints.specs.Viewpoints.{IsViewBody}
 use Rattle.bcf_bodies.specs.declared.body_fault.BodyFault.{BodyFault}
 use Rattle.bcf_bodies.specs.declared.body_fault.BodyFault.TheVariants.{BadMember}
 use Rattle.bcf_bodies.specs.declared.body_fault.BodyError.{BodyError}
-use Rattle.bcf_bodies.specs.Faults.{IsReadAs}
+use Rattle.bcf_bodies.specs.BodyFaults.{IsReadAs}
 use Rattle.bcf_bodies.specs.Members.{optional, text_in, index_in, before, all_of, is_table, items_under}
 use Rattle.bcf_bodies.specs.ViewBodies.{if_guid, guid_value, guid_in, joined_component, component_in, components_under, color_in, joined_coloring, coloring_in, colorings_under, parts_of, visibility_of, is_shaped, component_count, is_shown, joined_view, view_of_parts, view_body}
 

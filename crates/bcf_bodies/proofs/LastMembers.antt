@@ -5,7 +5,7 @@ use Rattle.serde_json.specs.Data.{Data}
 use Rattle.bcf_topics.specs.declared.topic_body.TopicBody.{TopicBody}
 use Rattle.bcf_bodies.specs.declared.body_fault.BodyError.{BodyError}
 use Rattle.bcf_bodies.specs.declared.body_fault.BodyError.TheVariants.{Fault, Memory}
-use Rattle.bcf_bodies.specs.Faults.{IsFault, IsPutAs}
+use Rattle.bcf_bodies.specs.BodyFaults.{IsFault, IsPutAs}
 use Rattle.bcf_bodies.specs.TopicBodies.{word_in, with_last, last_in}
 
 third_fault : (tree : Data) (body : TopicBody) (p s : Option (List ℕ)) (error : BodyError)

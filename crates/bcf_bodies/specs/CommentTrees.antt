@@ -1,9 +1,9 @@
 -- Comments that go out (BCF API 3.0, Comment Services), as JSON data.
 use Rattle.std.specs.Prelude.{◌≡◌, ℕ, List, Option, option_map, codes}
 use Rattle.serde_json.specs.Data.{Data, object, Members, no_members}
-use Rattle.bcf_json.specs.Texts.{identifier_text, IsDateText}
+use Rattle.bcf_json.specs.JsonTexts.{identifier_text, IsDateText}
 use Rattle.bcf_topics.specs.declared.comment.Comment.{Comment}
-use Rattle.bcf_bodies.specs.Objects.{put_text, put_text_if}
+use Rattle.bcf_bodies.specs.TextMembers.{put_text, put_text_if}
 use Rattle.bcf_bodies.specs.TopicTrees.{IsDateIf, moment_if, put_modified}
 
 -- what a comment always has

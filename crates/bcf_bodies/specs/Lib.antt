@@ -1,9 +1,9 @@
-pub mod Faults
+pub mod BodyFaults
 pub mod Members
 pub mod TopicBodies
 pub mod CommentBodies
 pub mod ViewBodies
-pub mod Objects
+pub mod TextMembers
 pub mod TopicTrees
 pub mod CommentTrees
 pub mod ViewTrees

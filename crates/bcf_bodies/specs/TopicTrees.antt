@@ -4,10 +4,10 @@ use Rattle.std.specs.Prelude.{◌≡◌, ℕ, ℤ, List, [], ◌∷◌, Option, 
 use Rattle.serde_json.specs.Data.{Data, number, string, array, object, Members, no_members, put}
 use Rattle.serde_json.specs.Find.{of_integer}
 use Rattle.bim_model.specs.declared.author.Author.{Author}
-use Rattle.bcf_json.specs.Texts.{identifier_text, IsDateText}
+use Rattle.bcf_json.specs.JsonTexts.{identifier_text, IsDateText}
 use Rattle.bcf_topics.specs.declared.topic_body.TopicBody.{TopicBody}
 use Rattle.bcf_topics.specs.declared.topic.Topic.{Topic}
-use Rattle.bcf_bodies.specs.Objects.{put_text, put_text_if, listed}
+use Rattle.bcf_bodies.specs.TextMembers.{put_text, put_text_if, listed}
 
 -- the date of a moment, where there is one
 abbrev pub IsDateIf : Option ℕ → Option (List ℕ) → Type 0

@@ -2,14 +2,14 @@
 use Rattle.std.specs.Prelude.{ℕ, List, Option, option_map, codes}
 use Rattle.serde_json.specs.Data.{Data, boolean, array, object, no_members, put}
 use Rattle.bim_model.specs.declared.guid.Guid.{Guid}
-use Rattle.bcf_json.specs.Texts.{identifier_text}
+use Rattle.bcf_json.specs.JsonTexts.{identifier_text}
 use Rattle.bcf_viewpoints.specs.declared.component.Component.{Component}
 use Rattle.bcf_viewpoints.specs.declared.component.Coloring.{Coloring}
 use Rattle.bcf_viewpoints.specs.declared.view.ViewBody.{ViewBody}
 use Rattle.bcf_viewpoints.specs.declared.view.ViewIs.{ViewIs}
 use Rattle.bcf_viewpoints.specs.declared.part.ViewPart.{ViewPart}
 use Rattle.bcf_viewpoints.specs.declared.part.ViewPart.TheVariants as part
-use Rattle.bcf_bodies.specs.Objects.{put_text, put_text_if, listed}
+use Rattle.bcf_bodies.specs.TextMembers.{put_text, put_text_if, listed}
 use Rattle.bcf_bodies.specs.TopicTrees.{put_index}
 
 -- the characters of an identifier

@@ -1,6 +1,6 @@
 //! What may be wrong with bodies.
 ghost use Rattle.std.specs.Prelude.{◌≡◌, Err};
-ghost use Rattle.bcf_bodies.specs.Faults.{IsReadAs};
+ghost use Rattle.bcf_bodies.specs.BodyFaults.{IsReadAs};
 
 use bim_model::Text;
 use std::alloc::{AllocError, Global};

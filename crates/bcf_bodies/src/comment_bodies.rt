@@ -1,6 +1,6 @@
 //! Comments that come in.
 ghost use Rattle.serde_json.specs.View.{view};
-ghost use Rattle.bcf_bodies.specs.Faults.{IsReadAs};
+ghost use Rattle.bcf_bodies.specs.BodyFaults.{IsReadAs};
 ghost use Rattle.bcf_bodies.specs.CommentBodies.{joined_comment, comment_body};
 
 use crate::body_fault::{BodyError, refuse};

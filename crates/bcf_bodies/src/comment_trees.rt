@@ -2,7 +2,7 @@
 ghost use Rattle.std.specs.Prelude.{◌≡◌, codes, IfOk, OnOk};
 ghost use Rattle.serde_json.specs.Data.{object};
 ghost use Rattle.serde_json.specs.View.{view, members_view};
-ghost use Rattle.bcf_bodies.specs.Objects.{put_text_if};
+ghost use Rattle.bcf_bodies.specs.TextMembers.{put_text_if};
 ghost use Rattle.bcf_bodies.specs.CommentTrees.{viewpoint_text, comment_base, IsCommentTree};
 
 use crate::objects::put_text;

@@ -2,7 +2,7 @@
 ghost use Rattle.std.specs.Prelude.{◌≡◌, option_map, OnOk};
 ghost use Rattle.serde_json.specs.Data.{string};
 ghost use Rattle.serde_json.specs.View.{view, members_view};
-ghost use Rattle.bcf_bodies.specs.Objects.{put_text, put_text_if};
+ghost use Rattle.bcf_bodies.specs.TextMembers.{put_text, put_text_if};
 ghost use Rattle.bcf_bodies.specs.TopicTrees.{put_index};
 
 use bim_model::Text;

@@ -2,7 +2,7 @@
 ghost use Rattle.std.specs.Prelude.{◌≡◌, IfOk, codes};
 ghost use Rattle.serde_json.specs.View.{view, items_view};
 ghost use Rattle.bcf_bodies.specs.Members.{short_text, all_of};
-ghost use Rattle.bcf_bodies.specs.Faults.{IsReadAs, IsPutAs};
+ghost use Rattle.bcf_bodies.specs.BodyFaults.{IsReadAs, IsPutAs};
 ghost use Rattle.bcf_bodies.specs.TopicBodies.{labels_of, labels_in, member_or, title_in, word_in, titled, first_in, last_in, topic_body};
 
 use crate::body_fault::{BodyError, BodyFault, refuse};

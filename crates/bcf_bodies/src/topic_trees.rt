@@ -2,8 +2,8 @@
 ghost use Rattle.std.specs.Prelude.{◌≡◌, ◌++◌, ◌∷◌, [], Some, map, option_map, IfOk, OnOk};
 ghost use Rattle.serde_json.specs.Data.{string, object, no_members};
 ghost use Rattle.serde_json.specs.View.{view, items_view, members_view};
-ghost use Rattle.bcf_json.specs.Texts.{IsDateText};
-ghost use Rattle.bcf_bodies.specs.Objects.{put_text, listed};
+ghost use Rattle.bcf_json.specs.JsonTexts.{IsDateText};
+ghost use Rattle.bcf_bodies.specs.TextMembers.{put_text, listed};
 ghost use Rattle.bcf_bodies.specs.TopicTrees.{moment_if, put_modified, put_labels, topic_base, put_words, put_rest, topic_members, IsDateIf, IsTopicTree};
 
 use crate::objects::{put_index, put_text, put_text_if};

@@ -5,9 +5,9 @@ ghost use Rattle.serde_json.specs.Data.{null};
 ghost use Rattle.serde_json.specs.Events.{items_len};
 ghost use Rattle.serde_json.specs.View.{view, items_view};
 ghost use Rattle.bcf_viewpoints.specs.Components.{IsComponent, IsColoring};
-ghost use Rattle.bcf_viewpoints.specs.Views.{IsViewBody};
+ghost use Rattle.bcf_viewpoints.specs.Viewpoints.{IsViewBody};
 ghost use Rattle.bcf_bodies.specs.Members.{all_are, is_list, is_table, is_flag, items_under};
-ghost use Rattle.bcf_bodies.specs.Faults.{IsReadAs};
+ghost use Rattle.bcf_bodies.specs.BodyFaults.{IsReadAs};
 ghost use Rattle.bcf_bodies.specs.ViewBodies.{component_in, is_coloring, visibility_of, is_shaped, colored_count, component_count, is_shown, view_of_parts, view_body};
 
 use crate::body_fault::{BodyError, BodyFault, refuse};

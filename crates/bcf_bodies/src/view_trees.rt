@@ -3,8 +3,8 @@ ghost use Rattle.std.specs.Prelude.{◌≡◌, ◌++◌, ◌∷◌, [], map, All
 ghost use Rattle.serde_json.specs.View.{view, items_view, members_view};
 ghost use Rattle.bim_model.specs.Guids.{IsGuid};
 ghost use Rattle.bcf_viewpoints.specs.Components.{IsComponent, IsColoring};
-ghost use Rattle.bcf_viewpoints.specs.Views.{IsViewBody};
-ghost use Rattle.bcf_bodies.specs.Objects.{put_text_if, listed};
+ghost use Rattle.bcf_viewpoints.specs.Viewpoints.{IsViewBody};
+ghost use Rattle.bcf_bodies.specs.TextMembers.{put_text_if, listed};
 ghost use Rattle.bcf_bodies.specs.ViewTrees.{guid_text, component_tree, coloring_tree, visibility_tree, one_member, whole_tree, view_tree};
 
 use crate::objects::{put_index, put_text, put_text_if};

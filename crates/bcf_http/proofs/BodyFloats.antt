@@ -17,8 +17,8 @@ use Rattle.bcf_viewpoints.specs.declared.part.ViewPart.{ViewPart}
 use Rattle.bcf_viewpoints.specs.declared.part.ViewPart.TheVariants as part
 use Rattle.bcf_viewpoints.specs.declared.view.ViewBody.{ViewBody}
 use Rattle.bcf_viewpoints.specs.declared.view.ViewIs.{ViewIs}
-use Rattle.bcf_json.specs.Texts.{identifier_text}
-use Rattle.bcf_bodies.specs.Objects.{put_text, put_text_if, listed}
+use Rattle.bcf_json.specs.JsonTexts.{identifier_text}
+use Rattle.bcf_bodies.specs.TextMembers.{put_text, put_text_if, listed}
 use Rattle.bcf_bodies.specs.TopicTrees.{put_modified, put_index, put_labels, topic_base, put_words, put_rest, topic_members, IsTopicTree}
 use Rattle.bcf_bodies.specs.CommentTrees.{comment_base, viewpoint_text, comment_tree, IsCommentTree}
 use Rattle.bcf_bodies.specs.ViewTrees.{guid_text, component_tree, coloring_tree, visibility_tree, one_member, whole_tree, view_tree}

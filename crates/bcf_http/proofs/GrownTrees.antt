@@ -5,7 +5,7 @@ use Rattle.serde_json.specs.Data.{Data, array}
 use Rattle.serde_json.specs.View.{view, items_of, items_view}
 use Rattle.serde_json.specs.declared.value.Value.{Value, Array}
 use Rattle.serde_json.proofs.Views.{view-Array}
-use Rattle.bcf_bodies.specs.Objects.{listed}
+use Rattle.bcf_bodies.specs.TextMembers.{listed}
 use Rattle.bcf_bodies.proofs.Lists.{written_more}
 use Rattle.bcf_http.specs.Answers.{AreTrees, IsArrayOf}
 

@@ -20,7 +20,7 @@ use Rattle.http_routes.specs.Targets.{query_of}
 use Rattle.http_routes.specs.Queries.{grid_asked, page_asked}
 use Rattle.http_routes.specs.declared.resource.TopicPlace.{TopicPlace}
 use Rattle.http_routes.specs.declared.resource.TopicPlace.TheVariants as place
-use Rattle.http_routes.specs.Places.{Place, projects, project, topics, of_topic, model, rules, version, clashes, clash, place_of}
+use Rattle.http_routes.specs.Resources.{Place, projects, project, topics, of_topic, model, rules, version, clashes, clash, place_of}
 use Rattle.bcf_http.specs.Asked.{object_of, is_method, asked_as, call_with, topics_call, topic_call, comments_call, comment_call, views_call, call_of_topic, model_asked, model_asked_by, rules_asked, rules_call, clashes_call, place_asked, judged, asked_at, asked_by, IsAskedAs, BringsNone, AsksNone}
 
 abbrev AllNone : Result Action RequestFault → Type 0

@@ -8,11 +8,11 @@ use Rattle.book_history.specs.declared.book_fault.StoreWhat.{StoreWhat}
 use Rattle.book_history.specs.declared.book_fault.StoreWhat.TheVariants as store
 use Rattle.book_history.specs.declared.replies.ReplyBody.{ReplyBody}
 use Rattle.book_history.specs.declared.replies.ReplyBody.TheVariants as reply
-use Rattle.bcf_json.specs.Texts.{identifier_text}
+use Rattle.bcf_json.specs.JsonTexts.{identifier_text}
 use Rattle.bcf_viewpoints.specs.declared.part.ViewPart.{ViewPart}
 use Rattle.bcf_bodies.specs.declared.body_fault.BodyFault.{BodyFault}
 use Rattle.bcf_bodies.specs.declared.body_fault.BodyFault.TheVariants.{Title, BadMember, BadComponent}
-use Rattle.bcf_bodies.specs.Objects.{listed}
+use Rattle.bcf_bodies.specs.TextMembers.{listed}
 use Rattle.bcf_bodies.specs.TopicTrees.{IsTopicTree}
 use Rattle.bcf_bodies.specs.CommentTrees.{IsCommentTree}
 use Rattle.bcf_bodies.specs.ViewTrees.{whole_tree, view_tree}
@@ -27,9 +27,9 @@ use Rattle.bcf_http.specs.declared.reply_kind.ReplyKind.{ReplyKind}
 use Rattle.bcf_http.specs.declared.answers.Answer.{Answer}
 use Rattle.bcf_http.specs.declared.answers.Answer.TheVariants as answer
 use Rattle.coord_json.specs.Errors.{error_tree, error_named, error_newest, error_version, error_store, error_full, error_place}
-use Rattle.coord_json.specs.Faults.{upload_fault_tree, rule_fault_tree}
-use Rattle.coord_json.specs.Versions.{changed_tree, IsVersionTree}
-use Rattle.coord_json.specs.Clashes.{clashes_tree, pending_tree}
+use Rattle.coord_json.specs.FaultTrees.{upload_fault_tree, rule_fault_tree}
+use Rattle.coord_json.specs.VersionTrees.{changed_tree, IsVersionTree}
+use Rattle.coord_json.specs.ClashTrees.{clashes_tree, pending_tree}
 use Rattle.bcf_http.specs.Responses.{response_bytes}
 
 -- a parameter of a query, as it is spelled

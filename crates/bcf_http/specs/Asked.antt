@@ -10,7 +10,7 @@ use Rattle.bim_model.specs.declared.upload.Mode.{Mode}
 use Rattle.bim_model.specs.declared.rules.Rule.{Rule}
 use Rattle.clash_rules.specs.declared.rule_fault.RuleFault.{RuleFault}
 use Rattle.clash_rules.specs.Json.{rules_of}
-use Rattle.bucket_check.specs.Sets.{SetValue}
+use Rattle.bucket_check.specs.ClashSets.{SetValue}
 use Rattle.http_frame.specs.declared.types.HttpRequest.{HttpRequest}
 use Rattle.book_history.specs.declared.requests.BookRequest.{BookRequest}
 use Rattle.book_history.specs.declared.requests.BookRequest.TheVariants.{ListProjects, ReadProject, ListTopics, ReadTopic, PostTopic, PutTopic, DeleteTopic, ListComments, ReadComment, PostComment, PutComment, DeleteComment, ListViews, ReadView, PostView, DeleteView, ClashTopic, Remove, SetRules, ReadVersion, ReadClashes, Finish}
@@ -37,7 +37,7 @@ use Rattle.http_routes.specs.Queries.{grid_asked, page_asked}
 use Rattle.http_routes.specs.declared.resource.Resource.{Resource}
 use Rattle.http_routes.specs.declared.resource.TopicPlace.{TopicPlace}
 use Rattle.http_routes.specs.declared.resource.TopicPlace.TheVariants as place
-use Rattle.http_routes.specs.Places.{Place, projects, project, topics, of_topic, model, rules, version, clashes, clash, place_lent, row_of, place_of}
+use Rattle.http_routes.specs.Resources.{Place, projects, project, topics, of_topic, model, rules, version, clashes, clash, place_lent, row_of, place_of}
 
 -- the tree, where it is an object
 abbrev pub if_object : Data → Option Data

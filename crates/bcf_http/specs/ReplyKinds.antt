@@ -5,7 +5,7 @@ use Rattle.bcf_viewpoints.specs.declared.part.ViewPart.TheVariants as part
 use Rattle.http_frame.specs.declared.types.HttpRequest.{HttpRequest}
 use Rattle.http_routes.specs.declared.paths.RoutePath.{RoutePath}
 use Rattle.http_routes.specs.declared.paths.RoutePath.TheVariants as row
-use Rattle.http_routes.specs.Places.{Place, row_of, project_at, part_at, place_of}
+use Rattle.http_routes.specs.Resources.{Place, row_of, project_at, part_at, place_of}
 use Rattle.bcf_http.specs.declared.reply_kind.ReplyKind.{ReplyKind}
 
 -- the number of the project whose own identifier this is, or 0

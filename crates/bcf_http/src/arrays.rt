@@ -2,7 +2,7 @@
 ghost use Rattle.std.specs.Prelude.{◌≡◌, ◌++◌, ◌∷◌, [], map, IfOk, OnOk};
 ghost use Rattle.serde_json.specs.Data.{array};
 ghost use Rattle.serde_json.specs.View.{view};
-ghost use Rattle.bcf_bodies.specs.Objects.{listed};
+ghost use Rattle.bcf_bodies.specs.TextMembers.{listed};
 ghost use Rattle.bcf_bodies.specs.TopicTrees.{IsTopicTree};
 ghost use Rattle.bcf_bodies.specs.CommentTrees.{IsCommentTree};
 ghost use Rattle.bcf_bodies.specs.ViewTrees.{whole_tree};

@@ -5,7 +5,7 @@ ghost use Rattle.book_history.specs.declared.requests.BookRequest.TheVariants.{C
 ghost use Rattle.bim_model.specs.Moments.{IsMoment};
 ghost use Rattle.http_routes.specs.Queries.{grid_asked, page_asked};
 ghost use Rattle.http_routes.specs.Targets.{query_of};
-ghost use Rattle.http_routes.specs.Places.{place_lent};
+ghost use Rattle.http_routes.specs.Resources.{place_lent};
 ghost use Rattle.bcf_http.specs.ReplyKinds.{kind_of};
 ghost use Rattle.bcf_http.specs.Asked.{object_of, author_of, model_asked, model_asked_by, with_rule_fault, rules_asked, rules_call, clashes_call, judged, asked_by, IsJudged, IsAskedAs, IsMeantAs, AsksNone};
 ghost use Rattle.clash_rules.specs.Json.{rules_of};

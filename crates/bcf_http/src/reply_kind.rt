@@ -1,6 +1,6 @@
 //! What responses need of their requests.
 ghost use Rattle.std.specs.Prelude.{◌≡◌, option_map};
-ghost use Rattle.http_routes.specs.Places.{place_lent};
+ghost use Rattle.http_routes.specs.Resources.{place_lent};
 ghost use Rattle.bcf_http.specs.ReplyKinds.{number_of, number_if, creates, kind_at, no_kind};
 
 use bcf_viewpoints::ViewPart;

@@ -2,7 +2,7 @@
 ghost use Rattle.std.specs.Prelude.{◌≡◌, ◌*◌, pos, IfOk};
 ghost use Rattle.jiff.specs.Words.{civil_nanos};
 ghost use Rattle.bim_model.specs.Moments.{IsMoment};
-ghost use Rattle.bcf_json.specs.Texts.{IsDateText};
+ghost use Rattle.bcf_json.specs.JsonTexts.{IsDateText};
 
 use bim_model::Text;
 use jiff::Timestamp;

@@ -1,13 +1,13 @@
 //! Identifiers as texts.
 ghost use Rattle.std.specs.Prelude.{◌≡◌, string_bytes, IfOk};
-ghost use Rattle.bcf_json.specs.Texts.{identifier_text};
+ghost use Rattle.bcf_json.specs.JsonTexts.{identifier_text};
 
 use bim_model::id_of;
 use std::alloc::{AllocError, Global};
 use uuid::Uuid;
 
 /// The identifier of the object with this serial number in a project, as `00000001-0000-8000-8000-000000000001`.
-#[tactic(auto, unfolding(crate::specs::Texts::identifier_text))]
+#[tactic(auto, unfolding(crate::specs::JsonTexts::identifier_text))]
 pub fn identifier_out(alloc: Global, project: u32, serial: u64) -> Result<String, AllocError>
     ensures { IfOk result (λ s. string_bytes s ≡ identifier_text project serial) }
 {

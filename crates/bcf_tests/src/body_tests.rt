@@ -1,7 +1,7 @@
 //! Bodies are read and written, against texts worked out by hand. Many more are told apart by
 //! `bench/bcf_bodies`.
 ghost use Rattle.std.specs.Prelude.{IfOk};
-ghost use Rattle.bcf_viewpoints.specs.Views.{IsViewBody};
+ghost use Rattle.bcf_viewpoints.specs.Viewpoints.{IsViewBody};
 
 use bcf_bodies::{
     BodyError, BodyFault, comment_in, comment_out, topic_in, topic_out, view_in, view_out,

@@ -1,5 +1,5 @@
 //! Viewpoints come and go.
-ghost use Rattle.bcf_viewpoints.specs.Views.{IsViewBody};
+ghost use Rattle.bcf_viewpoints.specs.Viewpoints.{IsViewBody};
 
 use bcf_viewpoints::{
     CheckedBody, CheckedView, Coloring, Component, ViewBody, ViewError, ViewIs, Viewpoints,

@@ -8,7 +8,7 @@ use Rattle.std.proofs.lemmas.Map.Views.{All-values-insert_entry, All-map-remove_
 use Rattle.bcf_topics.specs.Comments.{by_place, is_place}
 use Rattle.bcf_viewpoints.specs.declared.view.ViewBody.{ViewBody}
 use Rattle.bcf_viewpoints.specs.declared.viewpoints.ViewError.TheVariants.{NoViewpoint}
-use Rattle.bcf_viewpoints.specs.Views.{Views, IsViewBody, AreViews, view_of, views_with, views_but, views_off, deleted}
+use Rattle.bcf_viewpoints.specs.Viewpoints.{Views, IsViewBody, AreViews, view_of, views_with, views_but, views_off, deleted}
 
 pub with_kept : (topic serial : ℕ) (body : ViewBody) (views new : Views) → new ≡ views_with topic serial body views → AreViews views → IsViewBody body → AreViews new
 unfolding views_with

@@ -1,6 +1,6 @@
 //! Viewpoints whose components have good identifiers, as their types say.
 ghost use Rattle.std.specs.Prelude.{◌≡◌};
-ghost use Rattle.bcf_viewpoints.specs.Views.{IsViewBody};
+ghost use Rattle.bcf_viewpoints.specs.Viewpoints.{IsViewBody};
 
 use crate::view::{ViewBody, ViewIs};
 use bim_model::Duplicate;
@@ -16,7 +16,7 @@ pub struct CheckedBody {
 
 impl Model for CheckedBody {
     ghost use Rattle.bcf_viewpoints.specs.declared.view.ViewBody.{ViewBody};
-    ghost use Rattle.bcf_viewpoints.specs.Views.{IsViewBody};
+    ghost use Rattle.bcf_viewpoints.specs.Viewpoints.{IsViewBody};
 
     ghost Value = { ViewBody };
 
@@ -58,7 +58,7 @@ pub struct CheckedView {
 
 impl Model for CheckedView {
     ghost use Rattle.bcf_viewpoints.specs.declared.view.ViewIs.{ViewIs};
-    ghost use Rattle.bcf_viewpoints.specs.Views.{IsViewBody};
+    ghost use Rattle.bcf_viewpoints.specs.Viewpoints.{IsViewBody};
 
     ghost Value = { ViewIs };
 

@@ -1,6 +1,6 @@
 //! The viewpoints of a project.
 ghost use Rattle.std.specs.Prelude.{◌≡◌, ◌<◌, ◌^◌, [], ℕ, length, option_copied, is_ok, is_some, if◌then◌else◌, IfOk, IfSome, OnOk, OnErr};
-ghost use Rattle.bcf_viewpoints.specs.Views.{IsViewBody, AreViews, view_of, views_of, views_on, views_with, views_but, views_off, deleted};
+ghost use Rattle.bcf_viewpoints.specs.Viewpoints.{IsViewBody, AreViews, view_of, views_of, views_on, views_with, views_but, views_off, deleted};
 
 use crate::checked::CheckedView;
 use crate::view::ViewBody;
@@ -25,7 +25,7 @@ pub struct Viewpoints {
 }
 
 impl Model for Viewpoints {
-    ghost use Rattle.bcf_viewpoints.specs.Views.{Views, AreViews};
+    ghost use Rattle.bcf_viewpoints.specs.Viewpoints.{Views, AreViews};
 
     ghost Value = { Views };
 
@@ -34,7 +34,7 @@ impl Model for Viewpoints {
     ghost invariant = { λ v. AreViews v.views.entries };
 }
 
-#[tactic(auto, unfolding(crate::specs::Views::views_with))]
+#[tactic(auto, unfolding(crate::specs::Viewpoints::views_with))]
 fn insert(
     views: &mut BTreeMap<(u64, u64), ViewBody>,
     topic: u64,
@@ -51,7 +51,7 @@ fn insert(
     Ok(())
 }
 
-#[tactic(auto, unfolding(crate::specs::Views::view_of, crate::specs::Views::views_but))]
+#[tactic(auto, unfolding(crate::specs::Viewpoints::view_of, crate::specs::Viewpoints::views_but))]
 fn remove(views: &mut BTreeMap<(u64, u64), ViewBody>, topic: u64, serial: u64) -> bool
     requires { AreViews views.old.entries }
     ensures found { result ≡ is_some (view_of topic serial views.old.entries) }
@@ -150,7 +150,7 @@ impl Viewpoints {
     }
 
     /// The viewpoint of that serial number of that topic.
-    #[tactic(auto, unfolding(crate::specs::Views::view_of))]
+    #[tactic(auto, unfolding(crate::specs::Viewpoints::view_of))]
     pub fn get(&self, topic: u64, serial: u64) -> Option<&ViewBody>
         ensures value { option_copied result ≡ view_of topic serial self.now }
         ensures good { IfSome result (λ body. IsViewBody body.now) }

@@ -6,11 +6,11 @@ use Rattle.std.proofs.lemmas.List.Sums.{sum_by_push, sum_by-swap_remove}
 use Rattle.std.proofs.lemmas.Slice.Eq.{bytes_eq-Decides}
 use Rattle.std.specs.List.{swap_remove}
 use Rattle.std.specs.Str.{bytes_eq}
-use Rattle.bim_io.specs.Seen.{SourceSeen}
+use Rattle.bim_io.specs.StreamViews.{SourceSeen}
 use Rattle.bim_files.specs.declared.loans.MemFile.{MemFile}
 use Rattle.std.specs.Result.{result_ok}
 use Rattle.bim_files.specs.Files.{LendsTold, content_of, once}
-use Rattle.bim_files.specs.Memory.{IsFirst, LentState, StandsAt, file_seen, fresh_source, has_name, lent_seen, lent_times, told_of}
+use Rattle.bim_files.specs.MemoryFiles.{IsFirst, LentState, StandsAt, file_seen, fresh_source, has_name, lent_seen, lent_times, told_of}
 
 -- ---- files by their names
 

@@ -4,7 +4,7 @@ use Rattle.std.specs.Prelude.{Option, Some, None, IfSome}
 use Rattle.std.specs.Str.{bytes_eq}
 use Rattle.bim_model.specs.declared.limits.TheConstants.{MOST_UPLOAD}
 use Rattle.bim_io.specs.Causes.{Rose}
-use Rattle.bim_io.specs.Seen.{SourceSeen}
+use Rattle.bim_io.specs.StreamViews.{SourceSeen}
 
 -- a file: its name and what it holds
 pub record FileSeen : Type 0 where

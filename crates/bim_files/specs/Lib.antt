@@ -1,3 +1,3 @@
 pub mod Files
-pub mod Reading
-pub mod Memory
+pub mod FileReading
+pub mod MemoryFiles

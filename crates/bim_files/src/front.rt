@@ -2,7 +2,7 @@
 ghost use Rattle.std.specs.Prelude.{◌≡◌, ◌≤◌, ◌<◌, ◌+◌, ◌-◌, ◌++◌, length, IfOk, IfErr, OnOk};
 ghost use Rattle.bim_io.specs.Causes.{Rose};
 ghost use Rattle.bim_files.specs.Files.{Holds, IsFront, Tells};
-ghost use Rattle.bim_files.specs.Reading.{Grown, FrontEnds, FileEnds};
+ghost use Rattle.bim_files.specs.FileReading.{Grown, FrontEnds, FileEnds};
 
 use crate::named_source::{Files, NamedSource};
 use bim_model::{Bytes, MOST_UPLOAD, Text};

@@ -1,7 +1,7 @@
 //! What files in memory hold, and which names are lent.
 ghost use Rattle.std.specs.Prelude.{◌≡◌, ◌≤◌, ◌+◌, ℕ, List, false, All, IfOk, IfSome, IfNone, map};
 ghost use Rattle.bim_files.specs.Files.{content_of, once};
-ghost use Rattle.bim_files.specs.Memory.{file_seen, has_name, lent_times, IsFirst, StandsAt};
+ghost use Rattle.bim_files.specs.MemoryFiles.{file_seen, has_name, lent_times, IsFirst, StandsAt};
 
 use bim_model::{Bytes, Duplicate, Items, Text};
 use std::alloc::{AllocError, Global};

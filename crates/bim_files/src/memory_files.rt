@@ -2,9 +2,9 @@
 ghost use Rattle.std.specs.Prelude.{◌≡◌, ◌≤◌, Some, IfOk, IfSome, IfNone, IsErr, IsNone, OnErr, All};
 ghost use Rattle.std.specs.Prelude.{Contains, false, []};
 ghost use Rattle.bim_io.specs.Causes.{HasCause, counted};
-ghost use Rattle.bim_io.specs.Memory.{ended_empty};
+ghost use Rattle.bim_io.specs.MemoryStreams.{ended_empty};
 ghost use Rattle.bim_files.specs.Files.{IsFresh, Lends, LendsTold};
-ghost use Rattle.bim_files.specs.Memory.{fresh_source, has_name, lent_seen, lent_times, told_of, seen_of};
+ghost use Rattle.bim_files.specs.MemoryFiles.{fresh_source, has_name, lent_seen, lent_times, told_of, seen_of};
 
 use crate::loans::{MemFile, lent_place_of, place_of, take_back};
 use crate::named_source::{Files, NamedSource};
@@ -22,7 +22,7 @@ pub struct LentSource {
 }
 
 impl Model for LentSource {
-    ghost use Rattle.bim_files.specs.Memory.{LentState};
+    ghost use Rattle.bim_files.specs.MemoryFiles.{LentState};
 
     ghost Value = { LentState };
 
@@ -69,7 +69,7 @@ pub struct MemFiles {
 
 impl Model for MemFiles {
     ghost use Rattle.std.specs.Prelude.{◌≤◌};
-    ghost use Rattle.bim_files.specs.Memory.{MemFilesState};
+    ghost use Rattle.bim_files.specs.MemoryFiles.{MemFilesState};
 
     ghost Value = { MemFilesState };
 

@@ -2,8 +2,8 @@
 ghost use Rattle.std.specs.Prelude.{◌≡◌, ◌≤◌, Some, [], true, IfOk, IfSome, OnErr, map};
 ghost use Rattle.bim_io.specs.Causes.{HasCause};
 ghost use Rattle.bim_files.specs.Files.{content_of, IsFresh, Lends, LendsTold};
-ghost use Rattle.bim_files.specs.Memory.{file_seen, held, lent_times, told_of, told_where};
-ghost use Rattle.bim_files.specs.Memory.{sure_fresh, sure_lent_seen, sure_ends_empty, sure_seen_of};
+ghost use Rattle.bim_files.specs.MemoryFiles.{file_seen, held, lent_times, told_of, told_where};
+ghost use Rattle.bim_files.specs.MemoryFiles.{sure_fresh, sure_lent_seen, sure_ends_empty, sure_seen_of};
 
 use crate::loans::{MemFile, contents_of, lent_place_of, take_back};
 use crate::named_source::{Files, NamedSource};
@@ -29,7 +29,7 @@ pub struct SureLentSource {
 }
 
 impl Model for SureLentSource {
-    ghost use Rattle.bim_files.specs.Memory.{SureLentState};
+    ghost use Rattle.bim_files.specs.MemoryFiles.{SureLentState};
 
     ghost Value = { SureLentState };
 
@@ -75,7 +75,7 @@ pub struct SureFiles {
 
 impl Model for SureFiles {
     ghost use Rattle.std.specs.Prelude.{◌≤◌};
-    ghost use Rattle.bim_files.specs.Memory.{SureFilesState};
+    ghost use Rattle.bim_files.specs.MemoryFiles.{SureFilesState};
 
     ghost Value = { SureFilesState };
 

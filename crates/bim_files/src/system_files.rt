@@ -19,7 +19,7 @@ pub struct StdFile<R: Read + Drop> {
 }
 
 impl<R: Read + Drop> Model for StdFile<R> {
-    ghost use Rattle.bim_io.specs.Memory.{StreamState};
+    ghost use Rattle.bim_io.specs.MemoryStreams.{StreamState};
 
     ghost Value = { StreamState };
 

@@ -6,7 +6,7 @@ use Rattle.std.proofs.lemmas.List.Elements.{All-append}
 use Rattle.std.specs.Io.KnownBytes.{append_known, prepend_known}
 use Rattle.bim_model.specs.Moments.{IsMoment}
 use Rattle.bim_io.specs.Causes.{Gains, Loses, Grows, GivesMoment}
-use Rattle.bim_io.specs.Seen.{SourceSeen, SinkSeen, ClockSeen, SourceGives, SinkTakes, ClockGives, MayGive, Outside, Exchanges}
+use Rattle.bim_io.specs.StreamViews.{SourceSeen, SinkSeen, ClockSeen, SourceGives, SinkTakes, ClockGives, MayGive, Outside, Exchanges}
 
 pub Grows_empty : (o : Option (List ℕ)) → Grows o o []
 Grows_empty None = tt

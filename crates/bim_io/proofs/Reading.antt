@@ -4,7 +4,7 @@ use Rattle.std.proofs.Math.Seq.{take-add}
 use Rattle.std.proofs.lemmas.Bool.Decides.{nat_tests}
 use Rattle.std.proofs.lemmas.Grind.{common_steps}
 use Rattle.std.proofs.lemmas.List.{take-append-drop}
-use Rattle.bim_io.specs.Memory.{moved, left_at}
+use Rattle.bim_io.specs.MemoryStreams.{moved, left_at}
 
 -- what is left, whether or not the end was answered
 pub left_is : (ended : Bool) (left : List ℕ) → (ended ≡ true → left ≡ []) → left_at ended left ≡ left

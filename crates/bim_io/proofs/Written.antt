@@ -3,7 +3,7 @@ use Rattle.std.proofs.Common.{◌≡◌, ◌+◌, ◌<◌, ◌≤◌, length, ar
 use Rattle.std.proofs.Math.Seq.{take-add}
 use Rattle.std.proofs.lemmas.List.{take-append-drop}
 use Rattle.bim_io.specs.Causes.{Rose, Grows}
-use Rattle.bim_io.specs.Seen.{SinkSeen, SinkTakes}
+use Rattle.bim_io.specs.StreamViews.{SinkSeen, SinkTakes}
 use Rattle.bim_io.proofs.Calls.{takes_trans}
 use Rattle.bim_io.specs.Writes.{WritesLess}
 

@@ -1,4 +1,4 @@
 pub mod Causes
-pub mod Seen
-pub mod Memory
+pub mod StreamViews
+pub mod MemoryStreams
 pub mod Writes

@@ -1,7 +1,7 @@
 -- What a write of a whole piece leaves.
 use Rattle.std.specs.Prelude.{◌≡◌, ◌≢◌, ◌++◌, List, [], ℕ, Result, Ok, Err}
 use Rattle.bim_io.specs.Causes.{Rose}
-use Rattle.bim_io.specs.Seen.{SinkSeen, SinkTakes}
+use Rattle.bim_io.specs.StreamViews.{SinkSeen, SinkTakes}
 
 -- a front of the bytes was written, and not all of them, since a write failed
 abbrev pub WritesLess : SinkSeen → SinkSeen → List ℕ → Type 0

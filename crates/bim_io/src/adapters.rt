@@ -18,7 +18,7 @@ pub struct StdSource<R: Read + Drop> {
 }
 
 impl<R: Read + Drop> Model for StdSource<R> {
-    ghost use Rattle.bim_io.specs.Memory.{StreamState};
+    ghost use Rattle.bim_io.specs.MemoryStreams.{StreamState};
 
     ghost Value = { StreamState };
 

@@ -53,7 +53,7 @@ pub struct ListClock {
 
 impl Model for ListClock {
     ghost use Rattle.std.specs.Prelude.{◌≤◌, Some, None, if◌then◌else◌, length, take, drop};
-    ghost use Rattle.bim_io.specs.Memory.{ListClockState};
+    ghost use Rattle.bim_io.specs.MemoryStreams.{ListClockState};
 
     ghost Value = { ListClockState };
 

@@ -2,7 +2,7 @@
 ghost use Rattle.std.specs.Prelude.{◌≡◌, ◌≤◌, ◌+◌, ◌↔◌, ◌^◌, ◌-◌, [], false, ℕ, List, Some, length, min, Contains, IfOk, IsErr, IsTrue};
 ghost use Rattle.std.specs.Io.{ReadsAtMost, WritesAtMost};
 ghost use Rattle.bim_io.specs.Causes.{HasCause, ReadGives, ReadTakes, ends_read, WritesSome, WriteTells, counted};
-ghost use Rattle.bim_io.specs.Memory.{moved, left_at, ended_empty};
+ghost use Rattle.bim_io.specs.MemoryStreams.{moved, left_at, ended_empty};
 
 use crate::sure::{at_most, copy_front, is_over, tail};
 use crate::traits::{Failed, Sink, Source};
@@ -24,7 +24,7 @@ pub struct MemSource {
 
 impl Model for MemSource {
     ghost use Rattle.std.specs.Prelude.{◌≡◌, ◌≤◌, [], true, length, take, drop};
-    ghost use Rattle.bim_io.specs.Memory.{SourceState};
+    ghost use Rattle.bim_io.specs.MemoryStreams.{SourceState};
 
     ghost Value = { SourceState };
 
@@ -133,7 +133,7 @@ pub struct MemSink {
 
 impl Model for MemSink {
     ghost use Rattle.std.specs.Prelude.{◌≤◌};
-    ghost use Rattle.bim_io.specs.Memory.{SinkState};
+    ghost use Rattle.bim_io.specs.MemoryStreams.{SinkState};
 
     ghost Value = { SinkState };
 

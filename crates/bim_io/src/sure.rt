@@ -2,7 +2,7 @@
 ghost use Rattle.std.specs.Prelude.{◌≡◌, ◌≤◌, ◌<◌, ◌++◌, ◌||◌, ◌&&◌, ◌==◌, nat_lt, [], true, false, if◌then◌else◌, None, ℕ, List, Some, length, take, drop, min, IfOk, IfSome};
 ghost use Rattle.std.specs.Io.{ReadsAtMost, WritesAtMost};
 ghost use Rattle.bim_io.specs.Causes.{HasCause, ReadGives, ReadTakes, ends_read, WritesSome, WriteTells};
-ghost use Rattle.bim_io.specs.Memory.{moved, left_at, ended_empty};
+ghost use Rattle.bim_io.specs.MemoryStreams.{moved, left_at, ended_empty};
 
 use crate::traits::{Failed, Sink, Source};
 use bim_model::Bytes;
@@ -20,7 +20,7 @@ pub struct SureSource {
 
 impl Model for SureSource {
     ghost use Rattle.std.specs.Prelude.{◌≡◌, ◌≤◌, [], true, length, take, drop};
-    ghost use Rattle.bim_io.specs.Memory.{SureSourceState};
+    ghost use Rattle.bim_io.specs.MemoryStreams.{SureSourceState};
 
     ghost Value = { SureSourceState };
 
@@ -127,7 +127,7 @@ pub struct SureSink {
 
 impl Model for SureSink {
     ghost use Rattle.std.specs.Prelude.{◌≤◌, Some, None, if◌then◌else◌};
-    ghost use Rattle.bim_io.specs.Memory.{SureSinkState};
+    ghost use Rattle.bim_io.specs.MemoryStreams.{SureSinkState};
 
     ghost Value = { SureSinkState };
 

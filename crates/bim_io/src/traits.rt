@@ -3,7 +3,7 @@ ghost use Rattle.std.specs.Prelude.{◌≡◌, ◌∷◌, [], length, IfOk};
 ghost use Rattle.std.specs.Io.{ReadsAtMost, WritesAtMost};
 ghost use Rattle.bim_model.specs.Moments.{IsMoment};
 ghost use Rattle.bim_io.specs.Causes.{HasCause, ReadGives, ReadTakes, ends_read, WithinMost, WritesSome, WriteTells, GivesMoment, Grows};
-ghost use Rattle.bim_io.specs.Seen.{SourceSeen, SinkSeen, ClockSeen, EndsEmpty};
+ghost use Rattle.bim_io.specs.StreamViews.{SourceSeen, SinkSeen, ClockSeen, EndsEmpty};
 
 /// A call on the outside failed; the object's count of faults rose.
 #[derive(Clone, Copy, Debug, PartialEq, Eq)]

@@ -1,4 +1,4 @@
-pub mod Kept
+pub mod KeptBytes
 pub mod Guids
 pub mod Moments
 pub mod Distances
@@ -8,6 +8,7 @@ pub mod Points
 pub mod Polygons
 pub mod Gaps
 pub mod Models
+pub mod Names
 pub mod Snapshots
 pub mod Rules
 pub mod Keys

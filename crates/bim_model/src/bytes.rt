@@ -41,7 +41,7 @@ impl Model for Bytes {
 
     ghost Value = { List ℕ };
 
-    ghost use Rattle.bim_model.specs.Kept.{kept_bytes};
+    ghost use Rattle.bim_model.specs.KeptBytes.{kept_bytes};
 
     ghost view = { λ b. kept_bytes b.kept };
 }

@@ -15,6 +15,7 @@ mod limits;
 mod model;
 mod moment;
 mod named_model;
+mod names;
 mod rules;
 mod shared;
 mod snapshot;
@@ -39,6 +40,7 @@ pub use limits::{
 pub use model::Model;
 pub use moment::Moment;
 pub use named_model::NamedModel;
+pub use names::is_model_name;
 pub use rules::{
     ClassTest, Found, Meeting, ModelTest, Rule, RuleKind, Rules, StoreyTest, greatest_distance,
     rule_of,

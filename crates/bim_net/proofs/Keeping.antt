@@ -1,7 +1,7 @@
 -- What doors in memory show, whatever their counts of faults are.
 use Rattle.std.proofs.Common.{◌≡◌, ℕ, List, [], ◌∷◌, map, false, Option, Some, None, Ok, refl, ap}
 use Rattle.std.specs.Option.{option_map}
-use Rattle.bim_net.specs.Seen.{LinkSeen, EndedLink, DoorSeen}
+use Rattle.bim_net.specs.ConnectionViews.{LinkSeen, EndedLink, DoorSeen}
 use Rattle.bim_net.specs.Doors.{Accepts, TakesBack}
 use Rattle.bim_net.specs.Hosts.{some_failed}
 use Rattle.bim_net.specs.Stores.{StoreState, GivesNext, door_of}

@@ -2,7 +2,7 @@
 use Rattle.std.proofs.Common.{◌≡◌, ◌+◌, ℕ, List, [], ◌∷◌, ◌++◌, map, length, Bool, ◌||◌, refl, sym, ap, subst, arith}
 use Rattle.std.specs.List.{list_any}
 use Rattle.std.proofs.lemmas.List.{map-append, length-map}
-use Rattle.bim_net.specs.Seen.{DoorSeen, IsNew}
+use Rattle.bim_net.specs.ConnectionViews.{DoorSeen, IsNew}
 use Rattle.bim_net.specs.Hosts.{AreNew}
 
 -- one more new door

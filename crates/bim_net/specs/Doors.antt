@@ -1,7 +1,7 @@
 -- What the calls of a door do.
 use Rattle.std.specs.Prelude.{◌≡◌, ℕ, ◌+◌, ◌<◌, ◌++◌, List, [], ◌∷◌, length, true, Option, Some, None, IsSome, Result, Ok, Err, ⊤}
 use Rattle.bim_io.specs.Causes.{Rose}
-use Rattle.bim_net.specs.Seen.{EndedLink, DoorSeen}
+use Rattle.bim_net.specs.ConnectionViews.{EndedLink, DoorSeen}
 
 -- What is told grows by these, or is no longer told. Who doesn't tell never does again.
 abbrev pub GrowsBy : {X : Type 0} → Option (List X) → Option (List X) → List X → Type 0

@@ -1,7 +1,7 @@
 -- What contracts see of hosts in memory.
 use Rattle.std.specs.Prelude.{ℕ, true, List, [], Option, Some, None, map}
 use Rattle.bim_net.specs.declared.hosts.Opening.{Opening}
-use Rattle.bim_net.specs.Seen.{DoorSeen}
+use Rattle.bim_net.specs.ConnectionViews.{DoorSeen}
 use Rattle.bim_net.specs.Hosts.{HostSeen}
 use Rattle.bim_net.specs.Stores.{MemDoorState, StoreState}
 

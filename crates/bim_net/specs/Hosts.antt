@@ -5,7 +5,7 @@ use Rattle.bim_io.specs.Causes.{counted, Rose}
 use Rattle.bim_net.specs.declared.hosts.Opening.{Opening}
 use Rattle.bim_net.specs.declared.hosts.HostFault.{HostFault}
 use Rattle.bim_net.specs.declared.hosts.HostFault.TheVariants.{Failed, Memory}
-use Rattle.bim_net.specs.Seen.{DoorSeen, IsNew}
+use Rattle.bim_net.specs.ConnectionViews.{DoorSeen, IsNew}
 
 -- of a host: whether its doors tell the connections that were given back; how often it opened doors, and how it did
 -- last; how often doors were handed back to it, and what they showed last; the one moment that its clocks give, where

@@ -1,4 +1,4 @@
-pub mod Seen
+pub mod ConnectionViews
 pub mod Doors
 pub mod Stores
 pub mod Hosts

@@ -1,7 +1,7 @@
 -- What contracts see of doors in memory.
 use Rattle.std.specs.Prelude.{◌≡◌, ℕ, ◌+◌, List, [], ◌∷◌, Bool, true, false, Option, Some, None}
-use Rattle.bim_io.specs.Memory.{SourceState, SinkState, SureSourceState, SureSinkState, left_at}
-use Rattle.bim_net.specs.Seen.{LinkSeen, EndedLink, DoorSeen, link_seen}
+use Rattle.bim_io.specs.MemoryStreams.{SourceState, SinkState, SureSourceState, SureSinkState, left_at}
+use Rattle.bim_net.specs.ConnectionViews.{LinkSeen, EndedLink, DoorSeen, link_seen}
 
 -- the connections that a door has still to give, in their order, and what it tells of the others
 pub record StoreState : Type 0 where

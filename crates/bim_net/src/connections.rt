@@ -1,6 +1,6 @@
 //! Connections, doors and gates.
 ghost use Rattle.std.specs.Prelude.{IfOk, IfSome};
-ghost use Rattle.bim_net.specs.Seen.{DoorSeen, IsFresh, link_seen, ended_link};
+ghost use Rattle.bim_net.specs.ConnectionViews.{DoorSeen, IsFresh, link_seen, ended_link};
 ghost use Rattle.bim_net.specs.Doors.{Accepts, TakesBack};
 
 use crate::ends::LinkEnd;

@@ -1,7 +1,7 @@
 //! The doors of a host in memory.
 ghost use Rattle.std.specs.Prelude.{◌≡◌, true, [], Some, None, IfOk, nat_lt, vec_len, map, All, OnErr};
 ghost use Rattle.bim_io.specs.Causes.{counted};
-ghost use Rattle.bim_net.specs.Seen.{IsNew};
+ghost use Rattle.bim_net.specs.ConnectionViews.{IsNew};
 ghost use Rattle.bim_net.specs.Hosts.{AreNew, some_failed};
 ghost use Rattle.bim_net.specs.Halls.{HallState, new_hall};
 
@@ -39,7 +39,7 @@ pub(crate) struct Hall<D: StoredDoor + Drop> {
 
 impl<D: StoredDoor + Drop> Model for Hall<D> {
     ghost use Rattle.std.specs.Prelude.{All, true};
-    ghost use Rattle.bim_net.specs.Seen.{IsNew};
+    ghost use Rattle.bim_net.specs.ConnectionViews.{IsNew};
     ghost use Rattle.bim_net.specs.Halls.{HallState};
 
     ghost Value = { HallState D };

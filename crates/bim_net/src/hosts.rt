@@ -1,6 +1,6 @@
 //! Hosts: where doors, clocks and gates come from.
 ghost use Rattle.std.specs.Prelude.{◌≡◌, Some, IfOk, IfSome, vec_len, map};
-ghost use Rattle.bim_net.specs.Seen.{IsEmpty};
+ghost use Rattle.bim_net.specs.ConnectionViews.{IsEmpty};
 ghost use Rattle.bim_net.specs.Hosts.{HostSeen, AreNew, Opens, Closes};
 
 use crate::connections::{Door, Gate};

@@ -1,7 +1,7 @@
 //! Doors in memory: one whose accepts fail where its list says so, and one that never fails.
 ghost use Rattle.std.specs.Prelude.{◌≡◌, ◌≤◌, ◌↔◌, [], false, Some, IfOk, IfSome, IsErr, IsOk, Contains, option_map};
 ghost use Rattle.bim_io.specs.Causes.{counted};
-ghost use Rattle.bim_net.specs.Seen.{IsFresh, ended_link};
+ghost use Rattle.bim_net.specs.ConnectionViews.{IsFresh, ended_link};
 ghost use Rattle.bim_net.specs.Doors.{Accepts, TakesBack};
 ghost use Rattle.bim_net.specs.Stores.{GivesNext, new_store, numbered, door_of, link_of, mem_seen, sure_seen};
 

@@ -2,7 +2,7 @@
 ghost use Rattle.std.specs.Prelude.{◌≡◌, ◌↔◌, true, Err, Some, IfOk, IfSome, IfErr, IsErr, Contains, vec_len, map, All};
 ghost use Rattle.bim_model.specs.Moments.{IsMoment};
 ghost use Rattle.bim_io.specs.Causes.{counted};
-ghost use Rattle.bim_net.specs.Seen.{IsNew, IsEmpty};
+ghost use Rattle.bim_net.specs.ConnectionViews.{IsNew, IsEmpty};
 ghost use Rattle.bim_net.specs.Hosts.{AreNew, Opens, Closes};
 ghost use Rattle.bim_net.specs.Stores.{door_of};
 ghost use Rattle.bim_net.specs.Halls.{host_of, new_hall};

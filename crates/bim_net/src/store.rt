@@ -1,6 +1,6 @@
 //! The connections of a door in memory.
 ghost use Rattle.std.specs.Prelude.{◌≡◌, IfOk, IfSome, option_map};
-ghost use Rattle.bim_net.specs.Seen.{IsFresh, link_seen, ended_link};
+ghost use Rattle.bim_net.specs.ConnectionViews.{IsFresh, link_seen, ended_link};
 ghost use Rattle.bim_net.specs.Doors.{TakesBack};
 ghost use Rattle.bim_net.specs.Stores.{GivesNext, new_store, numbered, door_of};
 
@@ -18,7 +18,7 @@ pub struct FreshLink<S: Source + Drop, K: Sink + Drop> {
 }
 
 impl<S: Source + Drop, K: Sink + Drop> Model for FreshLink<S, K> {
-    ghost use Rattle.bim_net.specs.Seen.{LinkSeen, IsFresh, link_seen};
+    ghost use Rattle.bim_net.specs.ConnectionViews.{LinkSeen, IsFresh, link_seen};
 
     ghost Value = { LinkSeen };
 
@@ -54,7 +54,7 @@ pub struct GivenBack<S: Source + Drop, K: Sink + Drop> {
 }
 
 impl<S: Source + Drop, K: Sink + Drop> Model for GivenBack<S, K> {
-    ghost use Rattle.bim_net.specs.Seen.{EndedLink, link_seen, ended_link};
+    ghost use Rattle.bim_net.specs.ConnectionViews.{EndedLink, link_seen, ended_link};
 
     ghost Value = { EndedLink };
 
@@ -91,7 +91,7 @@ pub(crate) struct Store<S: Source + Drop, K: Sink + Drop> {
 impl<S: Source + Drop, K: Sink + Drop> Model for Store<S, K> {
     ghost use Rattle.std.specs.Prelude.{◌+◌, ◌≤◌, vec_capacity};
     ghost use Rattle.std.specs.VecDeque.{deque_len};
-    ghost use Rattle.bim_net.specs.Seen.{told};
+    ghost use Rattle.bim_net.specs.ConnectionViews.{told};
     ghost use Rattle.bim_net.specs.Stores.{StoreState};
 
     ghost Value = { StoreState };

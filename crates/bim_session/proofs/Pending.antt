@@ -5,8 +5,8 @@ use Rattle.std.proofs.lemmas.Bool.Decides.{nat_tests}
 use Rattle.std.proofs.lemmas.List.{map-append}
 use Rattle.std.proofs.lemmas.List.Sums.{sum_by-cons, sum_by_push}
 use Rattle.std.proofs.lemmas.List.Elements.{All-nil, All-cons}
-use Rattle.bucket_check.specs.Sets.{SetValue}
-use Rattle.bucket_grid.specs.Table.{upto}
+use Rattle.bucket_check.specs.ClashSets.{SetValue}
+use Rattle.bucket_grid.specs.BucketTable.{upto}
 use Rattle.http_frame.specs.Events.{Event}
 use Rattle.http_frame.specs.Events as frame
 use Rattle.book_history.specs.declared.limits.Settings.{Settings}
@@ -20,9 +20,9 @@ use Rattle.bcf_topics.specs.declared.comment.Comment.{Comment}
 use Rattle.bcf_topics.specs.declared.comment.CommentIn.{CommentIn}
 use Rattle.bcf_topics.specs.declared.comment.CommentBody.{CommentBody}
 use Rattle.bcf_topics.specs.Comments.{comments_on}
-use Rattle.bcf_viewpoints.specs.Views.{views_on}
+use Rattle.bcf_viewpoints.specs.Viewpoints.{views_on}
 use Rattle.book_topics.specs.Boards.{topic_at, comment_at, view_at}
-use Rattle.book_topics.specs.Named.{topic_named, comment_named, view_named, comment_kept}
+use Rattle.book_topics.specs.TopicIdentifiers.{topic_named, comment_named, view_named, comment_kept}
 use Rattle.bcf_viewpoints.specs.declared.view.ViewBody.{ViewBody}
 use Rattle.bcf_viewpoints.specs.declared.view.ViewIs.{ViewIs}
 use Rattle.book_history.specs.declared.book_fault.BookFault.TheVariants.{Pending, NoModel, NoTopic, NoComment, NoViewpoint}

@@ -7,7 +7,7 @@ use Rattle.http_frame.specs.declared.types.FrameStep.TheVariants as step
 use Rattle.http_frame.specs.declared.types.FrameError.TheVariants as error
 use Rattle.http_frame.specs.declared.framer.Framer.{Framer}
 use Rattle.http_frame.specs.Framers.{Stands, Answered}
-use Rattle.bim_io.specs.Seen.{ClockSeen, ClockGives}
+use Rattle.bim_io.specs.StreamViews.{ClockSeen, ClockGives}
 use Rattle.bim_io.proofs.Calls.{clock_none}
 use Rattle.bcf_http.specs.declared.reply_kind.ReplyKind.{ReplyKind}
 use Rattle.book_history.specs.declared.requests.BookRequest.{BookRequest}
@@ -21,7 +21,7 @@ use Rattle.bim_session.specs.declared.want.Waiting.{Waiting}
 use Rattle.bim_session.specs.declared.want.Want.{Want}
 use Rattle.bim_session.specs.declared.want.Want.TheVariants.{More, Write, Call, Leave}
 use Rattle.bim_session.specs.declared.notes.Notes.{Notes}
-use Rattle.bim_session.specs.Notes.{project_read, IsKeptReply}
+use Rattle.bim_session.specs.ShelfNotes.{project_read, IsKeptReply}
 use Rattle.bim_session.specs.Session.{closes_after, continue_bytes, IsFaultResponse}
 use Rattle.bim_session.specs.Talking.{TalkState, IsOwnEnd, IsOwnLeaving, IsOwnWant, GrowsBy, Feeds, is_end, Wants, StopsNext, TakesRequest, Writes, WantsFor, AtRest, AsksFor, waiting_for, with_answer, with_call, with_fault, with_framer, asks_change, IsUnasked, AnswersAlone}
 

@@ -1,4 +1,4 @@
-pub mod Notes
+pub mod ShelfNotes
 pub mod Works
 pub mod Session
 pub mod Replay

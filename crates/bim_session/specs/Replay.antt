@@ -1,7 +1,7 @@
 -- A session over a one-thread book, as a run with one actor.
 use Rattle.std.specs.Prelude.{◌≡◌, ◌⊎◌, ◌≤◌, ◌++◌, ℕ, List, [], length, Bool, false, Option, None, All}
 use Rattle.bim_io.specs.Causes.{ComesOfFault, WithinMost}
-use Rattle.bim_io.specs.Seen.{Outside, EndsEmpty, Exchanges}
+use Rattle.bim_io.specs.StreamViews.{Outside, EndsEmpty, Exchanges}
 use Rattle.http_frame.specs.Events.{Event, IsRest, IsTold}
 use Rattle.book_history.specs.declared.limits.Settings.{Settings}
 use Rattle.book_history.specs.Settings.{stated_limits}

@@ -27,7 +27,7 @@ use Rattle.bcf_http.specs.ReplyKinds.{kind_of, no_kind}
 use Rattle.bcf_http.specs.Asked.{asked_by}
 use Rattle.bcf_http.specs.Answers.{IsResponse}
 use Rattle.bim_session.specs.declared.talk.TheConstants.{MOST_REQUESTS}
-use Rattle.bim_session.specs.Notes.{named_project, project_read, set_told}
+use Rattle.bim_session.specs.ShelfNotes.{named_project, project_read, set_told}
 use Rattle.bim_session.specs.Works.{Standing, Printed, IsTaken, Works, WorksShort, last_turn}
 use Rattle.bim_session.specs.declared.end.SessionEnd.{SessionEnd}
 use Rattle.bim_session.specs.declared.end.SessionEnd.TheVariants.{Closed, Asked, Cut, ReadFault, WriteFault, Frame, Spent, SpentTurns, Memory}

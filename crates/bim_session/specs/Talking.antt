@@ -1,6 +1,6 @@
 -- One connection as a machine: what each of its methods does.
 use Rattle.std.specs.Prelude.{◌≡◌, ◌≢◌, ◌⊎◌, ℕ, ◌+◌, ◌==◌, ◌++◌, List, [], ◌∷◌, ◌||◌, Bool, true, false, not, IsTrue, if◌then◌else◌, Option, Some, None, IsSome, Result, Ok, Err}
-use Rattle.bim_io.specs.Seen.{ClockSeen, ClockGives}
+use Rattle.bim_io.specs.StreamViews.{ClockSeen, ClockGives}
 use Rattle.http_frame.specs.declared.types.HttpRequest.{HttpRequest}
 use Rattle.http_frame.specs.declared.types.FrameFault.{FrameFault}
 use Rattle.http_frame.specs.declared.framer.Framer.{Framer}
@@ -12,7 +12,7 @@ use Rattle.book_turn.specs.declared.call_fault.CallFault.{CallFault}
 use Rattle.book_turn.specs.declared.call_fault.CallFault.TheVariants as call_fault
 use Rattle.clash_publish.specs.Shelves.{set_of}
 use Rattle.federation_book.specs.declared.book.Book.{Book}
-use Rattle.bucket_check.specs.Sets.{SetValue}
+use Rattle.bucket_check.specs.ClashSets.{SetValue}
 use Rattle.book_history.specs.declared.limits.Settings.{Settings}
 use Rattle.book_history.specs.declared.requests.BookRequest.{BookRequest}
 use Rattle.book_history.specs.declared.requests.BookRequest.TheVariants as request
@@ -30,7 +30,7 @@ use Rattle.bim_session.specs.declared.end.SessionEnd.TheVariants as end
 use Rattle.bim_session.specs.declared.want.Waiting.{Waiting}
 use Rattle.bim_session.specs.declared.want.Want.{Want}
 use Rattle.bim_session.specs.declared.want.Want.TheVariants.{More, Write, Call, Leave}
-use Rattle.bim_session.specs.Notes.{project_read, AsksKept, IsKeptReply, Noted}
+use Rattle.bim_session.specs.ShelfNotes.{project_read, AsksKept, IsKeptReply, Noted}
 use Rattle.bim_session.specs.Session.{most_requests, closes_after, continue_bytes, IsFaultResponse, Means, IsRefusedBy}
 
 -- what contracts see of a talk: its framer, whether the end was fed, how many requests were answered, what

@@ -1,6 +1,6 @@
 -- The steps of a session at one history: those of its requests, and the work on buckets behind them.
 use Rattle.std.specs.Prelude.{◌≡◌, ◌⊎◌, ℕ, zero, suc, ◌+◌, ◌*◌, ◌<◌, ◌≤◌, ◌++◌, List, [], ◌∷◌, Option, Some, None}
-use Rattle.bucket_check.specs.Sets.{SetValue, own_places}
+use Rattle.bucket_check.specs.ClashSets.{SetValue, own_places}
 use Rattle.book_history.specs.declared.limits.Settings.{Settings}
 use Rattle.book_history.specs.declared.changes.Entry.{Entry}
 use Rattle.book_history.specs.declared.requests.BookRequest.TheVariants.{TakeWork, Finish}

@@ -1,7 +1,7 @@
 //! What a session keeps of the book's replies.
 ghost use Rattle.std.specs.Prelude.{◌≡◌, ℕ, None, IfOk, IfSome, OnOk, OnErr};
 ghost use Rattle.clash_publish.specs.Shelves.{set_of};
-ghost use Rattle.bim_session.specs.Notes.{named_project, project_read, set_told, put_set, AsksKept, IsKeptReply, Noted};
+ghost use Rattle.bim_session.specs.ShelfNotes.{named_project, project_read, set_told, put_set, AsksKept, IsKeptReply, Noted};
 
 use bim_model::id_of;
 use book_history::{BookReply, BookRequest, MOST_PROJECTS, ReplyBody, Wanted};

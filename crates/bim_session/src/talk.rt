@@ -4,7 +4,7 @@ ghost use Rattle.bim_model.specs.Moments.{IsMoment};
 ghost use Rattle.http_frame.specs.Framers.{Stands};
 ghost use Rattle.bim_session.specs.Session.{most_requests, closes_after, continue_bytes, IsFaultResponse};
 ghost use Rattle.bcf_http.specs.Answers.{IsResponse};
-ghost use Rattle.bim_session.specs.Notes.{project_read, Noted};
+ghost use Rattle.bim_session.specs.ShelfNotes.{project_read, Noted};
 ghost use Rattle.bim_session.specs.Talking.{fresh, Feeds, Stays, with_answer, with_call, with_fault, with_framer, with_memory, with_notes, with_spent, with_end, AsksFor, waiting_on, IsNoted, KeepsNone, WantsFor, Writes, Wants, StopsNext, LacksNext, Replies, LacksFor, AtRest, IsReady, IsOwnEnd, IsOwnLeaving, IsOwnWant, leaving_after, asks_change, is_refusal, changes_nothing, IsCallable};
 
 use crate::calls::call_of;

@@ -1,7 +1,7 @@
 -- What contracts see of doors and hosts over sockets.
 use Rattle.std.specs.Prelude.{ℕ, List, Bool, false, Option, None, map}
 use Rattle.bim_net.specs.declared.hosts.Opening.{Opening}
-use Rattle.bim_net.specs.Seen.{DoorSeen}
+use Rattle.bim_net.specs.ConnectionViews.{DoorSeen}
 use Rattle.bim_net.specs.Hosts.{HostSeen}
 
 -- of a door: which one it is, how many connections it has given, whether it has answered that it is closed, and how

@@ -1,6 +1,6 @@
 //! Connections and doors over sockets, which tell no bytes and no connections that were given back.
 ghost use Rattle.std.specs.Prelude.{◌≡◌, false, None, IfOk, IfSome, nat_lt};
-ghost use Rattle.bim_net.specs.Seen.{ended_link, link_seen};
+ghost use Rattle.bim_net.specs.ConnectionViews.{ended_link, link_seen};
 ghost use Rattle.bim_net.specs.Doors.{TakesBack};
 ghost use Rattle.bim_sockets.specs.Sockets.{new_door, door_seen};
 
@@ -33,7 +33,7 @@ pub struct TcpSource {
 }
 
 impl Model for TcpSource {
-    ghost use Rattle.bim_io.specs.Memory.{StreamState};
+    ghost use Rattle.bim_io.specs.MemoryStreams.{StreamState};
 
     ghost Value = { StreamState };
 

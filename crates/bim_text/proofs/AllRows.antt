@@ -7,7 +7,7 @@ use Rattle.std.proofs.lemmas.Bool.Decides.{nat_tests}
 use Rattle.std.proofs.lemmas.List.{append-nil, drop-drop, length-drop, drop_all}
 use Rattle.std.proofs.lemmas.Str.{IsUtf8-from_ascii}
 use Rattle.bim_text.proofs.Cleaning.{cleaned_nil, cleaned_kept}
-use Rattle.bim_text.specs.Texts.{Row, sequence_len, row_of, escape_row, high_row, wide_row, is_code, is_wide, is_shifted, is_page, is_hexadecimal, rows_within, rows, cleaned, is_plain, is_clean, text_of_spelling}
+use Rattle.bim_text.specs.TextSpellings.{Row, sequence_len, row_of, escape_row, high_row, wide_row, is_code, is_wide, is_shifted, is_page, is_hexadecimal, rows_within, rows, cleaned, is_plain, is_clean, text_of_spelling}
 use Rattle.p21_lexer.specs.Spelling.{run}
 
 -- each row is of one byte at least, and within the bytes

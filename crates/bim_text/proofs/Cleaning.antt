@@ -2,7 +2,7 @@
 use Rattle.std.proofs.Common.{◌≡◌, ℕ, suc, ◌+◌, ◌-◌, ◌<◌, ◌≤◌, ◌==◌, ◌&&◌, List, [], ◌∷◌, length, get_or, drop, refl, sym, ap, ◌∙◌, add-one, arith, append_assoc, drop-cons, inl, inr}
 use Rattle.std.proofs.lemmas.Bool.{le-leb, lt-leb, eqb-true, cases_Bool, and_parts}
 use Rattle.std.proofs.lemmas.List.{append-nil, length-drop, get_or-drop, drop_all}
-use Rattle.bim_text.specs.Texts.{unpaired, cleaned}
+use Rattle.bim_text.specs.TextSpellings.{unpaired, cleaned}
 
 pub cleaned_nil : cleaned [] ≡ []
 unfolding cleaned

@@ -4,7 +4,7 @@ use Rattle.std.specs.List.{list_all}
 use Rattle.std.proofs.lemmas.Bool.{and_parts, lt-ltb, le-leb, eq-eqb, ne_eqb}
 use Rattle.std.proofs.lemmas.Grind.{common_steps}
 use Rattle.bim_model.specs.Guids.{is_guid_char}
-use Rattle.bim_text.specs.Texts.{is_plain, text_of_spelling}
+use Rattle.bim_text.specs.TextSpellings.{is_plain, text_of_spelling}
 use Rattle.bim_text.specs.Says.{is_guid}
 use Rattle.bim_text.proofs.AllRows.{text_plain}
 

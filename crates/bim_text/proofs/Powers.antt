@@ -10,7 +10,7 @@ use Rattle.std.proofs.lemmas.Nat.{pow-add}
 use Rattle.std.proofs.lemmas.Int.{ints}
 use Rattle.std.proofs.Math.IntN.{negsuc-*ℤ-pos}
 use Rattle.std.proofs.Math.Nat.{one-le-pow, mul-lt-mul_of_pos_right}
-use Rattle.bim_text.specs.Values.{signed, above, below, SameValue, size_order}
+use Rattle.bim_text.specs.ScaledNumbers.{signed, above, below, SameValue, size_order}
 
 -- signs
 

@@ -6,7 +6,7 @@ use Rattle.std.proofs.lemmas.Bool.{le-leb, lt-leb, cases_Bool}
 use Rattle.std.proofs.lemmas.Nat.{div-add-mod'}
 use Rattle.std.proofs.lemmas.Str.{IsUtf8-from_is_utf8, is_utf8-from_IsUtf8}
 use Rattle.std.proofs.lemmas.List.{append-nil}
-use Rattle.bim_text.specs.Texts.{groups, group, character, sequence_len, high_row}
+use Rattle.bim_text.specs.TextSpellings.{groups, group, character, sequence_len, high_row}
 
 -- groups
 

@@ -9,7 +9,7 @@ use Rattle.std.proofs.lemmas.Bool.{ltb-false}
 use Rattle.std.proofs.lemmas.Bool.Decides.{Decides-eqb, nat_tests}
 use Rattle.std.proofs.lemmas.List.{length-drop}
 use Rattle.std.proofs.lemmas.Slice.Eq.{bytes_eq-Decides, starts_is}
-use Rattle.bim_text.specs.Texts.{row_of, rows, groups, group, character}
+use Rattle.bim_text.specs.TextSpellings.{row_of, rows, groups, group, character}
 use Rattle.bim_text.specs.Says.{is_text, ends_guid, Leaves, Lacks}
 use Rattle.bim_text.proofs.RowLemmas.{groups_step}
 use Rattle.bim_text.proofs.AllRows.{rows_step, rows_nil, row_fits, text_cleaned}

@@ -5,8 +5,8 @@ use Rattle.std.proofs.lemmas.Nat.{pow-add}
 use Rattle.std.proofs.Math.Nat.{div-add-mod}
 use Rattle.bim_text.specs.declared.decimal.Decimal.{Decimal}
 use Rattle.bim_text.specs.declared.short.Short.{Short}
-use Rattle.bim_text.specs.Values.{Scaled, signed, whole, SameValue}
-use Rattle.bim_text.specs.Numbers.{written}
+use Rattle.bim_text.specs.ScaledNumbers.{Scaled, signed, whole, SameValue}
+use Rattle.bim_text.specs.NumberSpellings.{written}
 use Rattle.bim_text.specs.Decimals.{Reads, WritesWhole, value_of}
 use Rattle.bim_text.specs.Short.{SpellsShort, short_value}
 use Rattle.bim_text.proofs.Powers.{same_value, same_zero}

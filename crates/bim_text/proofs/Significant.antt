@@ -4,7 +4,7 @@ use Rattle.std.proofs.Math.Nat.{pow-suc, mul-le-mul_left}
 use Rattle.std.proofs.lemmas.Bool.{eqb-true, cases_Bool, and_parts}
 use Rattle.std.proofs.lemmas.Bool.Decides.{nat_tests}
 use Rattle.std.proofs.lemmas.List.{reverse-append, length-reverse, append-nil}
-use Rattle.bim_text.specs.Numbers.{AreDigits, from_first, significant}
+use Rattle.bim_text.specs.NumberSpellings.{AreDigits, from_first, significant}
 use Rattle.p21_lexer.specs.Spelling.{is_digit, value_after}
 use Rattle.bim_text.proofs.Quotients.{times}
 use Rattle.bim_text.proofs.Truths.{digit_low, digit_high}

@@ -6,8 +6,8 @@ use Rattle.std.proofs.lemmas.Nat.{pow-add}
 use Rattle.std.proofs.Math.IntN.{negsuc-*ℤ-pos}
 use Rattle.std.proofs.Math.Nat.{one-le-pow, mul-mod_left, pow-suc, mul-pos, mul-div_cancel}
 use Rattle.bim_text.specs.declared.decimal.Decimal.{Decimal}
-use Rattle.bim_text.specs.Values.{Scaled, whole, signed, above, below, numerator, denominator, SameValue}
-use Rattle.bim_text.specs.Numbers.{Spelling, written}
+use Rattle.bim_text.specs.ScaledNumbers.{Scaled, whole, signed, above, below, numerator, denominator, SameValue}
+use Rattle.bim_text.specs.NumberSpellings.{Spelling, written}
 use Rattle.bim_text.specs.Decimals.{Reads, WritesWhole, value_of}
 use Rattle.bim_text.proofs.Parts.{parts_only}
 use Rattle.bim_text.proofs.Powers.{signed_times, signed_size}

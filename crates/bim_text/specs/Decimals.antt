@@ -1,8 +1,8 @@
 -- Decimals and the spellings that they stand for.
 use Rattle.std.specs.Prelude.{ℕ, ℤ, List}
 use Rattle.bim_text.specs.declared.decimal.Decimal.{Decimal}
-use Rattle.bim_text.specs.Values.{Scaled, whole, signed, SameValue}
-use Rattle.bim_text.specs.Numbers.{Spelling, IsRead, written}
+use Rattle.bim_text.specs.ScaledNumbers.{Scaled, whole, signed, SameValue}
+use Rattle.bim_text.specs.NumberSpellings.{Spelling, IsRead, written}
 
 -- the value of a decimal: its digits, with its sign, times ten to its exponent
 abbrev pub value_of : Decimal → Scaled

@@ -1,7 +1,7 @@
-pub mod Values
-pub mod Numbers
+pub mod ScaledNumbers
+pub mod NumberSpellings
 pub mod Decimals
-pub mod Scanning
-pub mod Texts
+pub mod NumberScanning
+pub mod TextSpellings
 pub mod Says
 pub mod Short

@@ -5,8 +5,8 @@ use Rattle.p21_lexer.specs.declared.token.Token.{Token}
 use Rattle.p21_lexer.specs.Cutting.{CutsFrom}
 use Rattle.bim_text.specs.declared.short.Short.{Short}
 use Rattle.bim_text.specs.declared.short.ShortRow.{ShortRow}
-use Rattle.bim_text.specs.Values.{Scaled, signed}
-use Rattle.bim_text.specs.Numbers.{Sign, Unsigned, Minus, Spelling, IsRead, written}
+use Rattle.bim_text.specs.ScaledNumbers.{Scaled, signed}
+use Rattle.bim_text.specs.NumberSpellings.{Sign, Unsigned, Minus, Spelling, IsRead, written}
 
 -- the value of a short number: its digits with its sign, the last of them behind the point
 abbrev pub short_value : Short → Scaled

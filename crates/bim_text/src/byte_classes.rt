@@ -2,7 +2,7 @@
 ghost use Rattle.std.specs.Prelude.{◌≡◌, ◌+◌, ◌*◌, ◌^◌, ◌<◌, ◌≤◌, ◌⊎◌, slice_index, drop, length};
 ghost use Rattle.std.specs.List.{list_all};
 ghost use Rattle.bim_model.specs.Guids.{is_guid_char as guid_char};
-ghost use Rattle.bim_text.specs.Texts.{is_hexadecimal, nibble, two, four, group};
+ghost use Rattle.bim_text.specs.TextSpellings.{is_hexadecimal, nibble, two, four, group};
 ghost use Rattle.p21_lexer.specs.Spelling.{run};
 
 /// The byte at a place, 0 past the end.
@@ -51,7 +51,7 @@ fn four_digits(bytes: &[u8], at: usize) -> u32
 }
 
 /// The number that a group of four or of eight writes.
-#[tactic(auto, unfolding(crate::specs::Texts::group))]
+#[tactic(auto, unfolding(crate::specs::TextSpellings::group))]
 pub fn group_digits(bytes: &[u8], at: usize, width: usize) -> u32
     requires width { width ≡ 4 ⊎ width ≡ 8 }
     requires room { at + 7 < 2 ^ 64 }

@@ -1,7 +1,7 @@
 //! What a spelled text says, told without memory: it is decoded piece by piece, and each piece is tested.
 ghost use Rattle.std.specs.Prelude.{◌≡◌, ◌≢◌, ◌+◌, ◌++◌, ◌^◌, ◌<◌, ◌≤◌, ◌⊎◌, [], ℕ, List, MatchOption, IfSome, IfNone, encode_utf8, slice_index, take, drop, length};
 ghost use Rattle.std.specs.Str.{bytes_eq};
-ghost use Rattle.bim_text.specs.Texts.{Row, cleaned, wide_row, escape_row, high_row, row_of, text_of_spelling};
+ghost use Rattle.bim_text.specs.TextSpellings.{Row, cleaned, wide_row, escape_row, high_row, row_of, text_of_spelling};
 ghost use Rattle.bim_text.specs.Says.{is_guid, is_text, ends_guid, accepts, Leaves, Lacks};
 
 use crate::byte_classes::are_guid_chars;
@@ -156,7 +156,7 @@ fn after_groups<'a>(spelled: &[u8], wanted: Wanted<'a>, width: usize) -> Option<
 }
 
 /// The step over `\X2\` or `\X4\` and its groups.
-#[tactic(auto, unfolding(crate::specs::Texts::wide_row))]
+#[tactic(auto, unfolding(crate::specs::TextSpellings::wide_row))]
 fn wide_step<'a>(spelled: &'a [u8], wanted: Wanted<'a>, width: usize) -> Option<Step<'a>>
     requires width { width ≡ 4 ⊎ width ≡ 8 }
     ensures text { MatchOption result
@@ -175,7 +175,7 @@ fn wide_step<'a>(spelled: &'a [u8], wanted: Wanted<'a>, width: usize) -> Option<
 }
 
 /// The step over the row of a backslash.
-#[tactic(auto, using(crate::proofs::Saying::leaves_none), unfolding(crate::specs::Texts::escape_row))]
+#[tactic(auto, using(crate::proofs::Saying::leaves_none), unfolding(crate::specs::TextSpellings::escape_row))]
 fn escape_step<'a>(spelled: &'a [u8], wanted: Wanted<'a>) -> Option<Step<'a>>
     ensures text { MatchOption result (Lacks (accepts wanted.entry) (escape_row (cleaned spelled.now)).gives)
         (λ s. Leaves (accepts wanted.entry) (escape_row (cleaned spelled.now)).gives (accepts s.wanted)) }
@@ -260,7 +260,7 @@ fn high_step<'a>(spelled: &'a [u8], wanted: Wanted<'a>) -> Option<Step<'a>>
 }
 
 /// The step over the row at the front.
-#[tactic(auto, unfolding(crate::specs::Texts::row_of))]
+#[tactic(auto, unfolding(crate::specs::TextSpellings::row_of))]
 fn row_step<'a>(spelled: &'a [u8], wanted: Wanted<'a>) -> Option<Step<'a>>
     requires some { 0 < length (cleaned spelled.now) }
     ensures text { MatchOption result (Lacks (accepts wanted.entry) (row_of (cleaned spelled.now)).gives)

@@ -1,6 +1,6 @@
 //! The bytes of a spelled text that cleaning keeps, read one by one without memory.
 ghost use Rattle.std.specs.Prelude.{◌≡◌, ◌∷◌, [], ◌<◌, ◌≤◌, MatchOption, IfSome, slice_index, drop, length, nat_lt};
-ghost use Rattle.bim_text.specs.Texts.{cleaned, is_hexadecimal};
+ghost use Rattle.bim_text.specs.TextSpellings.{cleaned, is_hexadecimal};
 ghost use Rattle.p21_lexer.specs.Spelling.{run};
 
 use crate::byte_classes::is_hexadecimal;

@@ -26,8 +26,8 @@ pub struct Decimal {
 
 impl Decimal {
     ghost use Rattle.std.specs.Prelude.{◌*◌, ◌≤◌, ◌≤ℤ◌, negsuc, IfSome, IfNone};
-    ghost use Rattle.bim_text.specs.Values.{signed, SameValue, raised, size_order};
-    ghost use Rattle.bim_text.specs.Numbers.{Spelling, IsRead};
+    ghost use Rattle.bim_text.specs.ScaledNumbers.{signed, SameValue, raised, size_order};
+    ghost use Rattle.bim_text.specs.NumberSpellings.{Spelling, IsRead};
     ghost use Rattle.bim_text.specs.Decimals.{Reads, value_of};
     ghost use Rattle.bim_model.specs.declared.limits.TheConstants.{MOST_UPLOAD};
     ghost use Rattle.bim_text.specs.declared.limits.TheConstants.{MOST_DIGITS, MOST_EXPONENT};

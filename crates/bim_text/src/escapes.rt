@@ -1,13 +1,13 @@
 //! Which row stands at the front of a spelled text, read without memory: the same tests as on cleaned bytes.
 ghost use Rattle.std.specs.Prelude.{◌≡◌, ◌+◌, ◌*◌, ◌^◌, ◌<◌, ◌⊎◌, IsTrue, slice_index, drop};
-ghost use Rattle.bim_text.specs.Texts.{cleaned, two, four, group, is_code, is_wide, is_shifted, is_page, is_hexadecimal};
+ghost use Rattle.bim_text.specs.TextSpellings.{cleaned, two, four, group, is_code, is_wide, is_shifted, is_page, is_hexadecimal};
 ghost use Rattle.p21_lexer.specs.Spelling.{run};
 
 use crate::byte_classes::{is_hexadecimal, nibble};
 use crate::cursor::{count_kept_hexadecimals, kept_at, skip};
 
 /// Whether the bytes begin as `\X\hh`, their first being a backslash.
-#[tactic(auto, unfolding(crate::specs::Texts::is_code))]
+#[tactic(auto, unfolding(crate::specs::TextSpellings::is_code))]
 pub fn is_code(spelled: &[u8]) -> bool
     ensures { result ≡ is_code (cleaned spelled.now) }
 {
@@ -26,7 +26,7 @@ pub fn wide_digits(spelled: &[u8]) -> usize
 }
 
 /// Whether the bytes begin as `\X2\` or `\X4\`, whole groups of that many hexadecimal digits, `\X0\`.
-#[tactic(auto, unfolding(crate::specs::Texts::is_wide))]
+#[tactic(auto, unfolding(crate::specs::TextSpellings::is_wide))]
 pub fn is_wide(spelled: &[u8], mark: u8, width: usize) -> bool
     requires width { width ≡ 4 ⊎ width ≡ 8 }
     ensures { result ≡ is_wide mark width (cleaned spelled.now) }
@@ -44,7 +44,7 @@ pub fn is_wide(spelled: &[u8], mark: u8, width: usize) -> bool
 }
 
 /// Whether the bytes begin as `\S\c`.
-#[tactic(auto, unfolding(crate::specs::Texts::is_shifted))]
+#[tactic(auto, unfolding(crate::specs::TextSpellings::is_shifted))]
 pub fn is_shifted(spelled: &[u8]) -> bool
     ensures is { result ≡ is_shifted (cleaned spelled.now) }
     ensures small { IsTrue result → slice_index (cleaned spelled.now) 3 < 128 }
@@ -56,7 +56,7 @@ pub fn is_shifted(spelled: &[u8]) -> bool
 }
 
 /// Whether the bytes begin as `\PA\`, with a letter from A to I.
-#[tactic(auto, unfolding(crate::specs::Texts::is_page))]
+#[tactic(auto, unfolding(crate::specs::TextSpellings::is_page))]
 pub fn is_page(spelled: &[u8]) -> bool
     ensures { result ≡ is_page (cleaned spelled.now) }
 {
@@ -84,7 +84,7 @@ fn four_digits(spelled: &[u8], at: usize) -> u32
 }
 
 /// The number that a group of four or of eight writes.
-#[tactic(auto, unfolding(crate::specs::Texts::group))]
+#[tactic(auto, unfolding(crate::specs::TextSpellings::group))]
 pub fn group_digits(spelled: &[u8], at: usize, width: usize) -> u32
     requires width { width ≡ 4 ⊎ width ≡ 8 }
     requires room { at + 7 < 2 ^ 64 }

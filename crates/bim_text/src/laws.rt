@@ -2,10 +2,10 @@
 ghost use Rattle.std.specs.Prelude.{◌≡◌, ℕ, List, IsTrue, true};
 ghost use Rattle.std.specs.List.{list_all};
 ghost use Rattle.bim_text.specs.declared.decimal.Decimal.{Decimal};
-ghost use Rattle.bim_text.specs.Values.{SameValue};
-ghost use Rattle.bim_text.specs.Numbers.{Spelling, IsNumber, written};
+ghost use Rattle.bim_text.specs.ScaledNumbers.{SameValue};
+ghost use Rattle.bim_text.specs.NumberSpellings.{Spelling, IsNumber, written};
 ghost use Rattle.bim_text.specs.Decimals.{Reads, value_of};
-ghost use Rattle.bim_text.specs.Texts.{is_plain, text_of_spelling};
+ghost use Rattle.bim_text.specs.TextSpellings.{is_plain, text_of_spelling};
 
 /// A number has one spelling by its parts, so a decimal that is read is the value that any spelling of its bytes writes.
 pub fn one_value()

@@ -1,12 +1,12 @@
 //! The rows of the table of texts: what each gives, and how many bytes it is.
 ghost use Rattle.std.specs.Prelude.{◌≡◌, ◌+◌, ◌++◌, ◌^◌, ◌<◌, ◌≤◌, ◌⊎◌, IsTrue, IfSome, IfNone, encode_utf8, IfOk, OnOk, slice_index, drop, length, string_bytes};
-ghost use Rattle.bim_text.specs.Texts.{is_code, is_wide, is_shifted, is_page, character, wide_row, escape_row, high_row, row_of, sequence_len};
+ghost use Rattle.bim_text.specs.TextSpellings.{is_code, is_wide, is_shifted, is_page, character, wide_row, escape_row, high_row, row_of, sequence_len};
 
 use crate::byte_classes::{byte_at, count_hexadecimals, group_digits, is_hexadecimal, two_digits};
 use std::alloc::AllocError;
 
 /// Whether the bytes begin as `\X\hh`, their first being a backslash.
-#[tactic(auto, unfolding(crate::specs::Texts::is_code))]
+#[tactic(auto, unfolding(crate::specs::TextSpellings::is_code))]
 fn is_code(rest: &[u8]) -> bool
     ensures { result ≡ is_code rest.now }
 {
@@ -17,7 +17,7 @@ fn is_code(rest: &[u8]) -> bool
 }
 
 /// Whether the bytes begin as `\X2\` or `\X4\`, whole groups of that many hexadecimal digits, `\X0\`.
-#[tactic(auto, unfolding(crate::specs::Texts::is_wide))]
+#[tactic(auto, unfolding(crate::specs::TextSpellings::is_wide))]
 fn is_wide(rest: &[u8], mark: u8, width: usize) -> bool
     requires width { width ≡ 4 ⊎ width ≡ 8 }
     requires short { length rest.now < 2 ^ 63 }
@@ -36,7 +36,7 @@ fn is_wide(rest: &[u8], mark: u8, width: usize) -> bool
 }
 
 /// Whether the bytes begin as `\S\c`.
-#[tactic(auto, unfolding(crate::specs::Texts::is_shifted))]
+#[tactic(auto, unfolding(crate::specs::TextSpellings::is_shifted))]
 fn is_shifted(rest: &[u8]) -> bool
     ensures is { result ≡ is_shifted rest.now }
     ensures small { IsTrue result → slice_index rest.now 3 < 128 }
@@ -48,7 +48,7 @@ fn is_shifted(rest: &[u8]) -> bool
 }
 
 /// Whether the bytes begin as `\PA\`, with a letter from A to I.
-#[tactic(auto, unfolding(crate::specs::Texts::is_page))]
+#[tactic(auto, unfolding(crate::specs::TextSpellings::is_page))]
 fn is_page(rest: &[u8]) -> bool
     ensures { result ≡ is_page rest.now }
 {
@@ -59,7 +59,7 @@ fn is_page(rest: &[u8]) -> bool
 }
 
 /// The character of a code; U+FFFD where it has none.
-#[tactic(auto, unfolding(crate::specs::Texts::character))]
+#[tactic(auto, unfolding(crate::specs::TextSpellings::character))]
 pub fn character(code: u32) -> char
     ensures { result ≡ character code }
 {
@@ -67,7 +67,7 @@ pub fn character(code: u32) -> char
 }
 
 /// Appends the characters of the groups that follow `\X2\` or `\X4\`.
-#[tactic(auto, using(crate::proofs::RowLemmas::steps), unfolding(crate::specs::Texts::wide_row))]
+#[tactic(auto, using(crate::proofs::RowLemmas::steps), unfolding(crate::specs::TextSpellings::wide_row))]
 fn push_groups(out: &mut String, rest: &[u8], width: usize) -> Result<usize, AllocError>
     requires width { width ≡ 4 ⊎ width ≡ 8 }
     requires short { length rest.now < 2 ^ 63 }
@@ -87,7 +87,7 @@ fn push_groups(out: &mut String, rest: &[u8], width: usize) -> Result<usize, All
 }
 
 /// Appends what the row of a backslash gives, and tells its size.
-#[tactic(auto, unfolding(crate::specs::Texts::escape_row))]
+#[tactic(auto, unfolding(crate::specs::TextSpellings::escape_row))]
 fn push_escape(out: &mut String, rest: &[u8]) -> Result<usize, AllocError>
     requires { length rest.now < 2 ^ 63 }
     ensures bytes { OnOk result (string_bytes out.new ≡ string_bytes out.old ++ (escape_row rest.now).gives) }
@@ -165,7 +165,7 @@ fn push_high(out: &mut String, rest: &[u8]) -> Result<usize, AllocError>
 }
 
 /// Appends what the row at the front gives, and tells how many bytes it is.
-#[tactic(auto, unfolding(crate::specs::Texts::row_of))]
+#[tactic(auto, unfolding(crate::specs::TextSpellings::row_of))]
 pub fn push_row(out: &mut String, rest: &[u8]) -> Result<usize, AllocError>
     requires some { 0 < length rest.now }
     requires short { length rest.now < 2 ^ 63 }

@@ -2,8 +2,8 @@
 ghost use Rattle.std.specs.Prelude.{◌≡◌, ◌+◌, ◌-◌, ◌^◌, ◌<◌, ◌≤◌, ◌++◌, length, drop, IfSome};
 ghost use Rattle.std.specs.Bool.{OnTrue};
 ghost use Rattle.p21_lexer.specs.Spelling.{value_after};
-ghost use Rattle.bim_text.specs.Numbers.{sign_bytes};
-ghost use Rattle.bim_text.specs.Scanning.{front, HasRoom};
+ghost use Rattle.bim_text.specs.NumberSpellings.{sign_bytes};
+ghost use Rattle.bim_text.specs.NumberScanning.{front, HasRoom};
 ghost use Rattle.bim_text.specs.Short.{EndsAt, IsShortAt, IsRowAt, sign_of};
 
 use crate::digits::is_digit;

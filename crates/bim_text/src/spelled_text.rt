@@ -1,7 +1,7 @@
 //! Texts as they are spelled in exchange files (ISO 10303-21, section 6.4.3).
 ghost use Rattle.std.specs.Prelude.{◌≡◌, ◌+◌, ◌++◌, ◌^◌, ◌<◌, ◌≤◌, IfOk, OnOk, ◌∷◌, slice_index, drop, length, string_bytes, true};
 ghost use Rattle.std.specs.List.{list_all};
-ghost use Rattle.bim_text.specs.Texts.{cleaned, rows, row_of, is_plain, is_clean, text_of_spelling};
+ghost use Rattle.bim_text.specs.TextSpellings.{cleaned, rows, row_of, is_plain, is_clean, text_of_spelling};
 ghost use Rattle.p21_lexer.specs.Spelling.{run};
 
 use crate::rows::push_row;

@@ -13,7 +13,7 @@ use Rattle.bim_model.specs.Snapshots.{Version}
 use Rattle.bim_model.proofs.Extents.{least_push, greatest_push}
 use Rattle.bim_model.proofs.Unique.{extent_same}
 use Rattle.bucket_grid.specs.Subjects.{IsBoxOf, AreBoxes}
-use Rattle.book_history.specs.Boxes.{least, greatest, chosen, box_of, boxes_of}
+use Rattle.book_history.specs.VersionBoxes.{least, greatest, chosen, box_of, boxes_of}
 
 alone_least : (x : ℤ) → IsLeast (x ∷ []) x
 alone_least x = record { reached = (0, omega arith, refl); bound = All-cons (λ n. x ≤ℤ n) x [] (omega (arith, ints)) (All-nil (λ n. x ≤ℤ n)) }

@@ -9,13 +9,13 @@ use Rattle.std.proofs.lemmas.List.Elements.{All-nil, All-cons, All-filter, All-w
 use borrow.Author.Differences.{up}
 use Rattle.bim_model.specs.declared.geometry.TheConstants.{GRID_LIMIT}
 use Rattle.bim_model.specs.declared.geometry.Extent.{Extent}
-use Rattle.box_lanes.specs.Places.{box_at}
+use Rattle.box_lanes.specs.BoxPlaces.{box_at}
 use Rattle.bucket_grid.specs.declared.cell.Cell.{Cell}
 use Rattle.bucket_grid.specs.declared.cell.TheConstants.{GROWTH}
 use Rattle.bucket_grid.specs.declared.bucket_table.Bucket.{Bucket}
 use Rattle.bucket_grid.specs.Cells.{cell_of, first_cell, last_cell, span, is_in, holds, members, cell_cmp, IsBucket}
-use Rattle.bucket_grid.specs.Table.{upto, IsTable}
-use Rattle.bucket_grid.specs.Places.{IsGridBox}
+use Rattle.bucket_grid.specs.BucketTable.{upto, IsTable}
+use Rattle.bucket_grid.specs.ElementPlaces.{IsGridBox}
 use Rattle.bucket_grid.proofs.Owners.{cell_of_rises, same_cell}
 use Rattle.bucket_grid.proofs.Parts.{flat_all, flat_any, flat_pairs, all_upto}
 use Rattle.bucket_grid.proofs.Searching.{turned_back}

@@ -22,8 +22,8 @@ use Rattle.bucket_grid.specs.declared.subjects.Member.{Member}
 use Rattle.bucket_grid.specs.declared.bucket_table.Bucket.{Bucket}
 use Rattle.bucket_grid.specs.Cells.{members}
 use Rattle.bucket_grid.specs.Subjects.{IsBoxOf, AreBoxes}
-use Rattle.bucket_grid.specs.Places.{IsPlace, IsGridBox}
-use Rattle.bucket_grid.specs.Table.{IsTable}
+use Rattle.bucket_grid.specs.ElementPlaces.{IsPlace, IsGridBox}
+use Rattle.bucket_grid.specs.BucketTable.{IsTable}
 use Rattle.bucket_grid.specs.Grids.{GridValue}
 use Rattle.book_history.proofs.Listing.{table_cells}
 

@@ -25,8 +25,8 @@ use Rattle.bucket_grid.specs.declared.cell.Cell.{Cell}
 use Rattle.bucket_grid.specs.Cells.{members}
 use Rattle.bucket_grid.specs.Grids.{GridValue}
 use Rattle.bucket_grid.specs.Subjects.{subject_at}
-use Rattle.bucket_check.specs.Sets.{IsSame, IsUnmoved, subjects_at}
-use Rattle.book_history.specs.Boxes.{boxes_of}
+use Rattle.bucket_check.specs.ClashSets.{IsSame, IsUnmoved, subjects_at}
+use Rattle.book_history.specs.VersionBoxes.{boxes_of}
 use Rattle.book_history.specs.Unmoved.{same_by, same_text, same_point, same_triangle, is_same, same_class, same_storeys, same_models, same_kind, same_rule, members_of, is_unmoved}
 
 -- a test is true exactly where a fact holds

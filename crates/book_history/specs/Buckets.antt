@@ -6,9 +6,9 @@ use Rattle.bim_model.specs.declared.geometry.Extent.{Extent}
 use Rattle.bim_model.specs.Snapshots.{Version}
 use Rattle.bucket_grid.specs.declared.cell.Cell.{Cell}
 use Rattle.bucket_grid.specs.Cells.{first_cell, span, members, memberships}
-use Rattle.bucket_grid.specs.Table.{upto}
+use Rattle.bucket_grid.specs.BucketTable.{upto}
 use Rattle.bucket_check.specs.Clashes.{is_cell}
-use Rattle.book_history.specs.Boxes.{boxes_of}
+use Rattle.book_history.specs.VersionBoxes.{boxes_of}
 
 -- the cell that lies so many places on from one number on each axis
 abbrev pub cell_on : ℤ → ℕ → ℕ → ℕ → Cell

@@ -2,7 +2,7 @@
 use Rattle.std.specs.Prelude.{ℕ, ◌+◌, ◌-◌, ◌<◌, ◌==◌, List, [], ◌∷◌, length, map, fold, filter, sum_by, nat_lt, nat_le, All, AllPairs, if◌then◌else◌}
 use Rattle.bim_model.specs.Snapshots.{Version}
 use Rattle.bucket_grid.specs.declared.cell.Cell.{Cell}
-use Rattle.bucket_grid.specs.Table.{upto}
+use Rattle.bucket_grid.specs.BucketTable.{upto}
 use Rattle.clash_publish.specs.declared.horizon.Horizon.{Horizon}
 use Rattle.book_topics.specs.Boards.{BoardState}
 use Rattle.book_history.specs.declared.changes.Entry.{Entry}

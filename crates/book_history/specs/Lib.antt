@@ -1,5 +1,5 @@
 pub mod Settings
-pub mod Boxes
+pub mod VersionBoxes
 pub mod Buckets
 pub mod Unmoved
 pub mod Orders
@@ -10,5 +10,5 @@ pub mod Weights
 pub mod Refusals
 pub mod Requests
 pub mod Legal
-pub mod Laws
+pub mod HistoryLaws
 pub mod Runs

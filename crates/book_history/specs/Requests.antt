@@ -14,8 +14,8 @@ use Rattle.bcf_topics.specs.declared.comment.Comment.{Comment}
 use Rattle.bcf_topics.specs.Topics.{new_topic, topic_put}
 use Rattle.bcf_topics.specs.Comments.{new_comment, comment_put, comments_on}
 use Rattle.bcf_viewpoints.specs.declared.view.ViewBody.{ViewBody}
-use Rattle.bcf_viewpoints.specs.Views.{viewpoint, views_on}
-use Rattle.bucket_check.specs.Sets.{SetValue}
+use Rattle.bcf_viewpoints.specs.Viewpoints.{viewpoint, views_on}
+use Rattle.bucket_check.specs.ClashSets.{SetValue}
 use Rattle.book_history.specs.declared.limits.Settings.{Settings}
 use Rattle.book_history.specs.declared.requests.Wanted.{Wanted}
 use Rattle.book_history.specs.declared.requests.BookRequest.{BookRequest}
@@ -31,7 +31,7 @@ use Rattle.book_history.specs.declared.replies.BookReply.{BookReply}
 use Rattle.book_history.specs.Orders.{OrderValue}
 use Rattle.book_history.specs.Versions.{VersionState, version_at, live_in, first_live}
 use Rattle.book_topics.specs.Boards.{BoardState, next_serial, topic_at, comment_at, view_at}
-use Rattle.book_topics.specs.Named.{topic_named, comment_named, view_named, comment_kept}
+use Rattle.book_topics.specs.TopicIdentifiers.{topic_named, comment_named, view_named, comment_kept}
 use Rattle.book_topics.specs.OfClashes.{clash_topic}
 use Rattle.book_history.specs.Projects.{ProjectState, newest, newest_content, clash_at, with_change}
 use Rattle.book_history.specs.History.{state_of, board_of, project_numbers, horizon_of}

@@ -18,7 +18,7 @@ use Rattle.bim_model.specs.Snapshots.{Version}
 use Rattle.bucket_grid.specs.declared.cell.Cell.{Cell}
 use Rattle.bucket_grid.specs.Cells.{members}
 use Rattle.bucket_grid.specs.Subjects.{subject_at}
-use Rattle.book_history.specs.Boxes.{boxes_of}
+use Rattle.book_history.specs.VersionBoxes.{boxes_of}
 
 -- two lists of one length whose items are the same place by place
 abbrev pub same_by : {A : Type 0} → (A → A → Bool) → List A → List A → Bool

@@ -1,5 +1,5 @@
 //! Laws of the definitions.
-ghost use Rattle.book_history.specs.Laws.{GridsAreOne, WorkStaysGiven, RequestsStayLegal};
+ghost use Rattle.book_history.specs.HistoryLaws.{GridsAreOne, WorkStaysGiven, RequestsStayLegal};
 
 /// A version has one grid.
 pub fn grids_are_one()

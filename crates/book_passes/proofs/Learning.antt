@@ -10,7 +10,7 @@ use Rattle.book_history.specs.declared.replies.BookReply.{BookReply}
 use Rattle.book_history.specs.Requests.{added_by}
 use Rattle.book_history.proofs.Histories.{added_of}
 use Rattle.book_passes.specs.Lessons.{BookPass, CallerSeen, Keeps, IsAnswered, IsIdle, TakesTurn, Learns, AllOf, caller_of, turn_of, stamp_in}
-use Rattle.book_passes.specs.Laws.{TakesCall}
+use Rattle.book_passes.specs.LessonLaws.{TakesCall}
 
 all_of : (turn : ℕ) (es : List Entry) → Rattle.book_history.proofs.Histories.AreOf turn es → AllOf turn es
 all_of turn [] are = tt

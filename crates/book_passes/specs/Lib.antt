@@ -1,2 +1,2 @@
 pub mod Lessons
-pub mod Laws
+pub mod LessonLaws

@@ -1,5 +1,5 @@
 //! What follows of the promises of a call of the book.
-ghost use Rattle.book_passes.specs.Laws.{CallsTeach, IdleTurnsTeach, TurnsTeach, LessonsAddUp};
+ghost use Rattle.book_passes.specs.LessonLaws.{CallsTeach, IdleTurnsTeach, TurnsTeach, LessonsAddUp};
 
 /// A call that is answered takes a turn, at which it adds what its request adds there.
 pub fn calls_teach()

@@ -5,8 +5,8 @@ ghost use Rattle.federation_book.specs.AnyTime.{IsFree};
 use bcf_topics::{CommentIn, TopicBody};
 use bcf_viewpoints::{CheckedBody, ViewBody};
 use bim_model::{
-    Author, ClassTest, Element, Guid, Items, Model, ModelTest, Moment, PER_MM, Point, Rule,
-    RuleKind, Rules, Shared, StoreyTest, Text, Triangle, id_of,
+    Author, ClassTest, Distance, Element, Guid, Items, Model, ModelTest, Moment, PER_MM, Point,
+    Rule, RuleKind, Rules, Shared, StoreyTest, Text, Triangle, id_of,
 };
 use book_history::{BookRequest, Wanted};
 use std::alloc::{AllocError, Global};
@@ -145,7 +145,9 @@ pub fn to_set_rules(alloc: Global, distance: u32) -> Result<BookRequest, AllocEr
         storey: StoreyTest::Any,
         level: None,
         models: ModelTest::Any,
-        kind: RuleKind::Clash { distance },
+        kind: RuleKind::Clash {
+            distance: Distance::new(distance),
+        },
     };
     let mut list = Vec::new(alloc);
     list.push(rule)?;

@@ -25,7 +25,7 @@ use Rattle.bcf_topics.specs.declared.topics.TopicError.TheVariants.{NoTopic, NoC
 use Rattle.bcf_viewpoints.specs.Components.{IsComponent, IsColoring}
 use Rattle.bcf_viewpoints.specs.declared.view.ViewBody.{ViewBody}
 use Rattle.bcf_viewpoints.specs.declared.viewpoints.ViewError.{ViewError}
-use Rattle.bcf_viewpoints.specs.Views.{Views, IsViewBody, views_with, views_but, views_off, deleted}
+use Rattle.bcf_viewpoints.specs.Viewpoints.{Views, IsViewBody, views_with, views_but, views_off, deleted}
 use Rattle.book_topics.specs.Boards.{BoardState, blank, next_serial, topic_at, topic_added, topic_replaced, topic_removed, comment_added, comment_replaced, comment_removed, view_added, view_removed, IsBoard}
 use Rattle.book_topics.specs.OfClashes.{clash_body, component_of, clash_view, clash_added}
 

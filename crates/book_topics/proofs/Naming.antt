@@ -3,7 +3,7 @@ use Rattle.std.proofs.Common.{◌≡◌, ◌-◌, ◌<◌, ◌^◌, ℕ, Option,
 use Rattle.std.proofs.lemmas.Bool.{cases_lt, eq-eqb, lt-ltb, le-ltb}
 use Rattle.std.proofs.lemmas.Bool.Decides.{eqb_tells}
 use Rattle.bim_model.specs.Identifiers.{identifier, IsSerialOf}
-use Rattle.book_topics.specs.Named.{serial_of}
+use Rattle.book_topics.specs.TopicIdentifiers.{serial_of}
 
 -- the number that an identifier has, or none, is the one that is meant
 pub serial_is : (project id : ℕ) (r : Option ℕ) → IsSerialOf project id r → r ≡ serial_of project id

@@ -10,7 +10,7 @@ use Rattle.bcf_topics.specs.Topics.{topic_of, new_topic, topics_put}
 use Rattle.bcf_topics.specs.Comments.{comment_of, comments_with, comments_put, comments_but}
 use Rattle.bcf_topics.specs.Discussions.{Discussion, with_topics, with_comments, without_topic}
 use Rattle.bcf_viewpoints.specs.declared.view.ViewBody.{ViewBody}
-use Rattle.bcf_viewpoints.specs.Views.{Views, view_of, views_with, views_but, views_off}
+use Rattle.bcf_viewpoints.specs.Viewpoints.{Views, view_of, views_with, views_but, views_off}
 
 -- the topics with their comments, the viewpoints, and how many of the three were made, also those that are gone
 pub record BoardState : Type 0 where

@@ -1,3 +1,3 @@
 pub mod Boards
-pub mod Named
+pub mod TopicIdentifiers
 pub mod OfClashes

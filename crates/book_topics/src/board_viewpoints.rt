@@ -1,6 +1,6 @@
 //! Viewpoints of the topics of a board.
 ghost use Rattle.std.specs.Prelude.{◌≡◌, ◌<◌, ◌+◌, ◌^◌, option_map, IsSome, IfOk, OnOk, OnErr};
-ghost use Rattle.bcf_viewpoints.specs.Views.{viewpoint, views_on};
+ghost use Rattle.bcf_viewpoints.specs.Viewpoints.{viewpoint, views_on};
 ghost use Rattle.book_topics.specs.Boards.{next_serial, topic_at, view_at, view_added, view_removed};
 
 use crate::board::Board;

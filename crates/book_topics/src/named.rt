@@ -1,7 +1,7 @@
 //! Topics, comments and viewpoints by their identifiers.
 ghost use Rattle.std.specs.Prelude.{◌≡◌, ◌<◌, ◌^◌, IfSome, IsSome, IfOk, option_map};
 ghost use Rattle.book_topics.specs.Boards.{topic_at, comment_at, view_at};
-ghost use Rattle.book_topics.specs.Named.{serial_of, topic_named, comment_named, view_named, comment_kept};
+ghost use Rattle.book_topics.specs.TopicIdentifiers.{serial_of, topic_named, comment_named, view_named, comment_kept};
 
 use crate::board::Board;
 use bcf_topics::{CommentBody, CommentIn};
@@ -9,7 +9,7 @@ use bim_model::Duplicate;
 use std::alloc::{AllocError, Global};
 
 // The serial number that has the identifier in a project.
-#[tactic(auto, unfolding(crate::specs::Named::serial_of))]
+#[tactic(auto, unfolding(crate::specs::TopicIdentifiers::serial_of))]
 fn serial_of(project: u32, id: u128) -> Option<u64>
     ensures is { result ≡ serial_of project id }
     ensures small { IfSome result (λ serial. serial < 2 ^ 48) }
@@ -19,7 +19,7 @@ fn serial_of(project: u32, id: u128) -> Option<u64>
 
 impl Board {
     /// The serial number of the topic that has the identifier in the project of this number.
-    #[tactic(auto, unfolding(crate::specs::Named::topic_named))]
+    #[tactic(auto, unfolding(crate::specs::TopicIdentifiers::topic_named))]
     pub fn topic_named(&self, project: u32, id: u128) -> Option<u64>
         ensures named { result ≡ topic_named project self.now id }
         ensures small { IfSome result (λ serial. serial < 2 ^ 48) }
@@ -35,7 +35,7 @@ impl Board {
     }
 
     /// .. of the comment on a topic.
-    #[tactic(auto, unfolding(crate::specs::Named::comment_named))]
+    #[tactic(auto, unfolding(crate::specs::TopicIdentifiers::comment_named))]
     pub fn comment_named(&self, project: u32, topic: u64, id: u128) -> Option<u64>
         ensures named { result ≡ comment_named project self.now topic id }
         ensures there { IfSome result (λ serial. IsSome (comment_at self.now topic serial)) }
@@ -50,7 +50,7 @@ impl Board {
     }
 
     /// .. of the viewpoint of a topic.
-    #[tactic(auto, unfolding(crate::specs::Named::view_named))]
+    #[tactic(auto, unfolding(crate::specs::TopicIdentifiers::view_named))]
     pub fn view_named(&self, project: u32, topic: u64, id: u128) -> Option<u64>
         ensures named { result ≡ view_named project self.now topic id }
         ensures there { IfSome result (λ serial. IsSome (view_at self.now topic serial)) }
@@ -65,7 +65,7 @@ impl Board {
     }
 
     /// A comment on a topic as it is kept, of what was sent: none where that names no viewpoint of the topic.
-    #[tactic(auto, unfolding(crate::specs::Named::comment_kept))]
+    #[tactic(auto, unfolding(crate::specs::TopicIdentifiers::comment_kept))]
     pub fn comment_kept(&self, project: u32, topic: u64, sent: CommentIn) -> Option<CommentBody>
         ensures { result ≡ comment_kept project self.now topic sent }
     {

@@ -7,10 +7,10 @@ use Rattle.atomic_table.specs.Table.{Me, Step, rest}
 use Rattle.book_turn.specs.declared.object.Stamp.{Stamp}
 use Rattle.book_turn.specs.declared.rule.View.{View}
 use Rattle.book_turn.specs.declared.rule.Stage.TheVariants.{Waiting, Called}
-use Rattle.book_turn.specs.Numbers.{has}
+use Rattle.book_turn.specs.NumberLists.{has}
 use Rattle.book_turn.specs.Entries.{listed, IsOneOf}
-use Rattle.book_turn.specs.Views.{drawn_view, awaited, done_view}
-use Rattle.book_turn.specs.Steps.{TakesTurn, looked, Comes, Adds, Serves, journal_in}
+use Rattle.book_turn.specs.PassViews.{drawn_view, awaited, done_view}
+use Rattle.book_turn.specs.TurnSteps.{TakesTurn, looked, Comes, Adds, Serves, journal_in}
 use Rattle.book_turn.proofs.Keeps.{some-inj}
 
 pub came : {O E S : Type 0} (journal : O → List E) (settings : O → S) (turn pass : E → ℕ) (st : Step (Option O)) (me0 me me' : Me (Option O) (View E S)) (t r : ℕ)

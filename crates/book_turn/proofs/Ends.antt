@@ -9,10 +9,10 @@ use Rattle.atomic_table.specs.declared.shared.Seat.{Seat}
 use Rattle.book_turn.specs.declared.rule.View.{View}
 use Rattle.book_turn.specs.declared.rule.Stage.TheVariants.{Free}
 use Rattle.book_turn.specs.declared.object.Stamp.{Stamp}
-use Rattle.book_turn.specs.Numbers.{has, greatest}
+use Rattle.book_turn.specs.NumberLists.{has, greatest}
 use Rattle.book_turn.specs.Entries.{AllBefore, calls_by, up_to, OwnUpTo}
-use Rattle.book_turn.specs.Views.{dealt_view, kept_view, given_view}
-use Rattle.book_turn.specs.Steps.{Glued}
+use Rattle.book_turn.specs.PassViews.{dealt_view, kept_view, given_view}
+use Rattle.book_turn.specs.TurnSteps.{Glued}
 use Rattle.book_turn.specs.Rule.{Kept}
 use Rattle.book_turn.specs.Passes.{PassState, TurnState, pass_state, BelongsTo, IsSingle, IsIdle, Joined, new_pass, new_passes}
 use Rattle.book_turn.proofs.Prefixes.{own_calls}

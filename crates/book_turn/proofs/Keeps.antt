@@ -11,9 +11,9 @@ use Rattle.book_turn.specs.declared.rule.View.{View}
 use Rattle.book_turn.specs.declared.rule.Stage.{Stage}
 use Rattle.book_turn.specs.declared.rule.Stage.TheVariants.{Free, Waiting, Called}
 use Rattle.book_turn.specs.Entries.{AllBefore, AllAfter, up_to, calls_by, IsOneOf, OwnUpTo, Rises}
-use Rattle.book_turn.specs.Numbers.{same, times, has}
-use Rattle.book_turn.specs.Views.{staged, IsInTurn, IsCalled, first_view, drawn_view, called_view, done_view, kept_view, given_view, both_views, spent_view, compared_view, awaited}
-use Rattle.book_turn.specs.Steps.{AreBeginnings, Glued, drew, looked, passed, compared, journal_in, Comes, Adds}
+use Rattle.book_turn.specs.NumberLists.{same, times, has}
+use Rattle.book_turn.specs.PassViews.{staged, IsInTurn, IsCalled, first_view, drawn_view, called_view, done_view, kept_view, given_view, both_views, spent_view, compared_view, awaited}
+use Rattle.book_turn.specs.TurnSteps.{AreBeginnings, Glued, drew, looked, passed, compared, journal_in, Comes, Adds}
 use Rattle.book_turn.specs.Rule.{total, Fits, NobodyIsCalled, Placed, Kept}
 use Rattle.book_turn.proofs.Totals.{total_set, total_snoc, times_append, cut_times, cut_length, in_first, in_others, total_only, times_empty, numbers_length, numbers_in, numbers_out, has_first, has_last, total_at, total_two, total_bounded, same_one, same_none, has_times, times_has}
 use Rattle.book_turn.proofs.Prefixes.{before_append, before_later, up_to_all, up_to_later, up_to_splits, own_append, own_drop, own_all, own_none, one_up_to, one_since, one_rises, one_known, one_other, own_fewer, own_later, own_both, begins_later, begins_of, picked, own_whole}

@@ -5,8 +5,8 @@ use native.Mathlib.Decide.{dec_le}
 use borrow.Author.Tests.{lt-leb}
 use mathlib.Core.List.{append-nil}
 use Rattle.book_turn.specs.declared.rule.Beginning.{Beginning}
-use Rattle.book_turn.specs.Steps.{AreBeginnings}
-use Rattle.book_turn.specs.Numbers.{times, has}
+use Rattle.book_turn.specs.TurnSteps.{AreBeginnings}
+use Rattle.book_turn.specs.NumberLists.{times, has}
 use Rattle.book_turn.proofs.Totals.{has_times, times_has, times_append}
 use Rattle.book_turn.specs.Entries.{AllBefore, AllAfter, Rises, up_to, calls_by, IsOneOf, OwnUpTo}
 

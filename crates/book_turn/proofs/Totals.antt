@@ -5,7 +5,7 @@ use mathlib.Core.Logic.{dite}
 use native.Mathlib.Decide.{ℕ_discrete}
 use lib.ListN.{get_elem?}
 use Rattle.book_turn.specs.Rule.{total}
-use Rattle.book_turn.specs.Numbers.{same, times, has, greatest, all_but_first, first_only, numbers_from}
+use Rattle.book_turn.specs.NumberLists.{same, times, has, greatest, all_but_first, first_only, numbers_from}
 
 module _ {A : Type 0} (f : A → ℕ) where
   pub total_set : (l : List A) (i : ℕ) (v w : A) → get_elem? l i ≡ some v → total f (set l i w) + f v ≡ total f l + f w

@@ -1,6 +1,6 @@
 -- Lists of entries, oldest first, each made by some pass in some turn.
 use Rattle.std.specs.Prelude.{ℕ, ◌≡◌, ◌<◌, ◌≤◌, List, [], ◌∷◌, true, Option, None, Some, if◌then◌else◌, leb}
-use Rattle.book_turn.specs.Numbers.{has}
+use Rattle.book_turn.specs.NumberLists.{has}
 
 -- no entry, or one
 abbrev pub listed : {E : Type 0} → Option E → List E

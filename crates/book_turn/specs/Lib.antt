@@ -1,7 +1,7 @@
-pub mod Numbers
+pub mod NumberLists
 pub mod Entries
-pub mod Views
-pub mod Steps
+pub mod PassViews
+pub mod TurnSteps
 pub mod Rule
 pub mod Passes
-pub mod Faults
+pub mod TurnFaults

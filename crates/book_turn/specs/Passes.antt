@@ -6,7 +6,7 @@ use Rattle.book_turn.specs.declared.rule.View.{View}
 use Rattle.book_turn.specs.declared.rule.Stage.TheVariants.{Free}
 use Rattle.book_turn.specs.declared.object.Stamp.{Stamp}
 use Rattle.book_turn.specs.declared.limits.TheConstants.{MOST_TURNS}
-use Rattle.book_turn.specs.Numbers.{has, times, greatest}
+use Rattle.book_turn.specs.NumberLists.{has, times, greatest}
 use Rattle.book_turn.specs.Entries.{listed, AllBefore, AllAfter, Rises, up_to, calls_by}
 
 -- which turn it is

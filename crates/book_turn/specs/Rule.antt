@@ -5,10 +5,10 @@ use lib.ListN.{get_elem?}
 use Rattle.atomic_table.specs.Table.{State}
 use Rattle.book_turn.specs.declared.rule.View.{View}
 use Rattle.book_turn.specs.declared.limits.TheConstants.{MOST_PASSES}
-use Rattle.book_turn.specs.Numbers.{times}
+use Rattle.book_turn.specs.NumberLists.{times}
 use Rattle.book_turn.specs.Entries.{AllBefore, Rises, up_to, OwnUpTo}
-use Rattle.book_turn.specs.Views.{staged, IsCalled, IsInTurn}
-use Rattle.book_turn.specs.Steps.{AreBeginnings}
+use Rattle.book_turn.specs.PassViews.{staged, IsCalled, IsInTurn}
+use Rattle.book_turn.specs.TurnSteps.{AreBeginnings}
 
 -- f of each, added up
 abbrev pub total : {A : Type 0} → (A → ℕ) → List A → ℕ

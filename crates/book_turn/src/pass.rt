@@ -1,6 +1,6 @@
 //! A pass to a turn: what one caller knows of the history.
 ghost use Rattle.std.specs.Prelude.{◌≡◌};
-ghost use Rattle.book_turn.specs.Numbers.{greatest};
+ghost use Rattle.book_turn.specs.NumberLists.{greatest};
 ghost use Rattle.book_turn.specs.Passes.{pass_state, IsIdle};
 
 use crate::object::SeqObject;

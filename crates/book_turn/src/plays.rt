@@ -1,6 +1,6 @@
 //! What each step tells.
-ghost use Rattle.book_turn.specs.Views.{kept_view, given_view, both_views, spent_view};
-ghost use Rattle.book_turn.specs.Steps.{drew, looked, passed, compared};
+ghost use Rattle.book_turn.specs.PassViews.{kept_view, given_view, both_views, spent_view};
+ghost use Rattle.book_turn.specs.TurnSteps.{drew, looked, passed, compared};
 
 use crate::object::SeqObject;
 use crate::rule::View;

@@ -51,7 +51,7 @@ pub struct InTurn<O> {
 }
 
 impl<O: SeqObject> TableRule<Option<O>, View<O::Entry, O::Settings>, Key<O>> for InTurn<O> {
-    ghost use Rattle.book_turn.specs.Views.{first_view};
+    ghost use Rattle.book_turn.specs.PassViews.{first_view};
     ghost use Rattle.book_turn.specs.Rule.{Kept};
 
     ghost holds = { λ key. Kept O.journal O.settings (λ e. (O.stamp_of e).turn) (λ e. (O.stamp_of e).pass)

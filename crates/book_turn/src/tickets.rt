@@ -1,9 +1,9 @@
 //! The table that the passes of a turn share, and a seat's steps on it.
 ghost use Rattle.std.specs.Prelude.{ℕ, ◌≡◌, ◌<◌, ◌≤◌, ◌^◌, ◌+◌, ◌*◌, [], ◌∷◌, ◌++◌, Some, length, true, IfSome, IfOk};
-ghost use Rattle.book_turn.specs.Views.{kept_view, given_view, first_view};
-ghost use Rattle.book_turn.specs.Steps.{drew, looked, passed, Adds, Glued, Comes, Serves, TakesTurn};
+ghost use Rattle.book_turn.specs.PassViews.{kept_view, given_view, first_view};
+ghost use Rattle.book_turn.specs.TurnSteps.{drew, looked, passed, Adds, Glued, Comes, Serves, TakesTurn};
 ghost use Rattle.book_turn.specs.Entries.{AllBefore};
-ghost use Rattle.book_turn.specs.Numbers.{has};
+ghost use Rattle.book_turn.specs.NumberLists.{has};
 ghost use Rattle.atomic_table.specs.Table.{step};
 ghost use Rattle.book_turn.specs.declared.rule.Stage.TheVariants.{Free, Waiting, Called};
 ghost use mathlib.Core.Option.{none};

@@ -2,8 +2,8 @@
 ghost use Rattle.std.specs.Prelude.{ℕ, ◌≡◌, ◌<◌, ◌≤◌, [], length, IfOk, IfErr, All};
 ghost use Rattle.book_turn.specs.Passes.{BelongsTo, IsSingle, KeepsNumbers, new_passes, Answered, Joined};
 ghost use Rattle.book_turn.specs.Entries.{AllBefore};
-ghost use Rattle.book_turn.specs.Faults.{Failed};
-ghost use Rattle.book_turn.specs.Views.{dealt_view};
+ghost use Rattle.book_turn.specs.TurnFaults.{Failed};
+ghost use Rattle.book_turn.specs.PassViews.{dealt_view};
 
 use crate::call_fault::{CallFault, SpentPass};
 use crate::limits::{MOST_PASSES, MOST_TURNS};

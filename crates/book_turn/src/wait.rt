@@ -1,6 +1,6 @@
 //! How a thread waits for its turn. No contract speaks of time.
 ghost use Rattle.std.specs.Prelude.{ℕ, ◌≡◌, ◌<◌, [], length};
-ghost use Rattle.book_turn.specs.Steps.{Comes};
+ghost use Rattle.book_turn.specs.TurnSteps.{Comes};
 ghost use Rattle.book_turn.specs.declared.rule.Stage.TheVariants.{Waiting};
 
 use crate::object::SeqObject;

@@ -9,8 +9,8 @@ use Rattle.std.proofs.lemmas.List.{length-take-le, drop-take, drop-drop, length-
 use Rattle.std.proofs.lemmas.List.{drop-map}
 use lib.Pow.{shr-shr}
 use lib.Lanes.{mask_l}
-use Rattle.box_lanes.specs.Places.{places_from}
-pub use Rattle.box_lanes.specs.Places.{part}
+use Rattle.box_lanes.specs.BoxPlaces.{places_from}
+pub use Rattle.box_lanes.specs.BoxPlaces.{part}
 use Rattle.box_lanes.proofs.Places.{places-append, Next}
 
 split : (c x p : ℕ) → 0 < p → c ≤ 1 → (c + 2 * x) % (p * 2) ≡ c + 2 * (x % p)

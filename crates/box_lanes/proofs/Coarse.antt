@@ -1,4 +1,4 @@
--- Boxes in steps of 32: those that meet do so in steps too.
+-- Boxes in steps of 256: those that meet do so in steps too.
 use Rattle.std.proofs.Common.{rules, ◌≡◌, ℕ, ◌+◌, ◌*◌, ◌/◌, ◌%◌, ◌^◌, ◌<◌, ◌≤◌, ℤ, pos, negsuc, ◌≤ℤ◌, int_le, Bool, true, false, true≢false, ◌&&◌, cond, List, [], ◌∷◌, map, refl, sym, ap, ap₂, ◌∙◌, arith}
 use Rattle.std.proofs.lemmas.Int.{ints}
 use Rattle.std.specs.List.{All}
@@ -10,7 +10,7 @@ use mir.Syntax.{w16, w32}
 use mir.Val.{SFits, to_z, of_z}
 use Rattle.bim_model.specs.declared.geometry.Extent.{Extent}
 use Rattle.box_lanes.specs.declared.reach.Reach.{Reach}
-use Rattle.box_lanes.specs.Lanes.{meets, coarse, may_meet}
+use Rattle.box_lanes.specs.CoarseBoxes.{meets, coarse, may_meet}
 use Rattle.box_lanes.proofs.Vectors.{Fit}
 use Rattle.box_lanes.proofs.Eights.{read_sides}
 

@@ -10,9 +10,9 @@ use mir.Val.{SFits}
 use Rattle.bim_model.specs.declared.geometry.Extent.{Extent}
 use Rattle.box_lanes.specs.declared.blocks.Block.{Block}
 use Rattle.box_lanes.specs.declared.box_table.BoxTable.TheInside.{Inside}
-use Rattle.box_lanes.specs.Places.{nowhere, box_at}
+use Rattle.box_lanes.specs.BoxPlaces.{nowhere, box_at}
 use Rattle.box_lanes.specs.Blocks.{boxes_of, boxes_in_block, boxes_in, padded, IsBlock, AreBlocks, HasBlocks, IsTable}
-use Rattle.box_lanes.specs.Lanes.{Fits32}
+use Rattle.box_lanes.specs.CoarseBoxes.{Fits32}
 use Rattle.box_lanes.proofs.Bits.{mask_take}
 
 -- ---- a block

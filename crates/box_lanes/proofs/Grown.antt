@@ -6,7 +6,7 @@ use Rattle.std.specs.Int.{saturate_signed, w32}
 use borrow.Author.Differences.{up}
 use lib.Signed.{le_z, lt_z}
 use mir.Val.{SFits}
-use Rattle.box_lanes.specs.Places.{is_close_from}
+use Rattle.box_lanes.specs.BoxPlaces.{is_close_from}
 
 -- the span begins at most g above ph
 below : (l ph rh : ℤ) (g : ℕ) → SFits w32 l → SFits w32 ph → rh ≡ saturate_signed w32 (ph +ℤ pos g) → le_z l rh ≡ leb (up (l -ℤ ph)) g

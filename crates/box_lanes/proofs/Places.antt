@@ -8,7 +8,7 @@ use Rattle.std.proofs.lemmas.List.Elements.{All-head, All-tail}
 use lib.Count.{count_trailing_zeros}
 use lib.Pow.{shr-shr}
 use lib.Lanes.{mask_l}
-use Rattle.box_lanes.specs.Places.{places_from}
+use Rattle.box_lanes.specs.BoxPlaces.{places_from}
 
 cond_append : (b : Bool) (m : ℕ) (xs ys zs : List ℕ) → xs ≡ ys ++ zs → cond b (m ∷ xs) xs ≡ cond b (m ∷ ys) ys ++ zs
 cond_append true m xs ys zs e = ap (λ r. m ∷ r) e

@@ -4,8 +4,8 @@ use Rattle.std.specs.List.{flat_map}
 use Rattle.bim_model.specs.declared.geometry.Extent.{Extent}
 use Rattle.box_lanes.specs.declared.blocks.Block.{Block}
 use Rattle.box_lanes.specs.declared.box_table.BoxTable.TheInside.{Inside}
-use Rattle.box_lanes.specs.Lanes.{Fits32, coarse}
-use Rattle.box_lanes.specs.Places.{nowhere}
+use Rattle.box_lanes.specs.CoarseBoxes.{Fits32, coarse}
+use Rattle.box_lanes.specs.BoxPlaces.{nowhere}
 
 -- the boxes whose sides stand in the lists, as far as the lists reach
 abbrev pub boxes_of : (low_x low_y low_z high_x high_y high_z : List ℤ) → List Extent
@@ -23,7 +23,7 @@ boxes_of (a ∷ lx) (b ∷ ly) (c ∷ lz) (d ∷ hx) (e ∷ hy) (f ∷ hz) =
 abbrev pub boxes_in_block : Block → List Extent
 boxes_in_block b = boxes_of b.low_x b.low_y b.low_z b.high_x b.high_y b.high_z
 
--- the sides of the boxes in steps of 32, those of each kind in a list of their own, low ones first
+-- the sides of the boxes in steps of 256, those of each kind in a list of their own, low ones first
 abbrev pub coarse_lists : List Extent → List (List ℤ)
 coarse_lists boxes =
     map (λ (b : Extent). coarse b.low.x) boxes
@@ -34,7 +34,7 @@ coarse_lists boxes =
     ∷ map (λ (b : Extent). coarse b.high.z) boxes
     ∷ []
 
--- each list has its side of every box, also in steps of 32, and the sides fit 32 bits
+-- each list has its side of every box, also in steps of 256, and the sides fit 32 bits
 pub record IsBlock (block : Block) (boxes : List Extent) : Type 0 where
   pub low_x_is : block.low_x ≡ map (λ (b : Extent). b.low.x) boxes
   pub low_y_is : block.low_y ≡ map (λ (b : Extent). b.low.y) boxes

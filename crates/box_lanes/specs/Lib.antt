@@ -1,3 +1,3 @@
-pub mod Places
+pub mod BoxPlaces
 pub mod Blocks
-pub mod Lanes
+pub mod CoarseBoxes

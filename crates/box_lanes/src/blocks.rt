@@ -1,8 +1,8 @@
 //! Boxes in blocks of eight.
 ghost use Rattle.std.specs.Prelude.{◌≡◌, ◌+◌, ◌*◌, ◌<◌, ◌≤◌, ◌^◌, ◌∷◌, [], length, map, All, OnOk};
 ghost use Rattle.box_lanes.specs.Blocks.{IsBlock, HasBlocks};
-ghost use Rattle.box_lanes.specs.Lanes.{coarse};
-ghost use Rattle.box_lanes.specs.Places.{nowhere, box_at};
+ghost use Rattle.box_lanes.specs.CoarseBoxes.{coarse};
+ghost use Rattle.box_lanes.specs.BoxPlaces.{nowhere, box_at};
 
 use bim_model::{Extent, Point};
 use std::alloc::AllocError;
@@ -11,8 +11,8 @@ use std::simd::prelude::*;
 /// How many boxes are compared at once.
 pub const LANES: usize = 8;
 
-/// Eight boxes, the sides of each kind in a list of their own; and their sides in steps of 32 grid numbers, low ones
-/// first. Sixteen bits a side let eight comparisons be one, and steps of 32 reach all of the grid.
+/// Eight boxes, the sides of each kind in a list of their own; and their sides in steps of 256 grid numbers, low
+/// ones first. Sixteen bits a side let eight comparisons be one, and steps of 256 reach all of the grid.
 #[derive(Clone, Copy)]
 pub struct Block {
     pub low_x: [i32; LANES],
@@ -24,12 +24,12 @@ pub struct Block {
     pub coarse: [[i16; LANES]; 6],
 }
 
-/// Eight coordinates in steps of 32, rounded down, as far as 16 bits go.
+/// Eight coordinates in steps of 256, rounded down, as far as 16 bits go.
 #[inline(always)]
 pub fn coarse_of(a: i32, b: i32, c: i32, d: i32, e: i32, f: i32, g: i32, h: i32) -> [i16; LANES]
     ensures { result ≡ map coarse (a ∷ b ∷ c ∷ d ∷ e ∷ f ∷ g ∷ h ∷ []) }
 {
-    let steps = i32x8::from_array([a, b, c, d, e, f, g, h]) >> i32x8::splat(5);
+    let steps = i32x8::from_array([a, b, c, d, e, f, g, h]) >> i32x8::splat(8);
     let least = i32x8::splat(i32::from(i16::MIN));
     let greatest = i32x8::splat(i32::from(i16::MAX));
     steps.simd_clamp(least, greatest).cast::<i16>().to_array()

@@ -4,8 +4,8 @@ ghost use Rattle.std.specs.Int.{saturate_signed, w32};
 ghost use Rattle.std.specs.Simd.Lanes.{mask_l, chunk};
 ghost use Rattle.bim_model.specs.declared.geometry.Extent.{Extent};
 ghost use Rattle.bim_model.specs.Gaps.{is_within};
-ghost use Rattle.box_lanes.specs.Places.{box_at, places_from, part, places_within, later_within};
-ghost use Rattle.box_lanes.specs.Lanes.{meets, may_meet, IsRough, Fits32};
+ghost use Rattle.box_lanes.specs.BoxPlaces.{box_at, places_from, part, places_within, later_within};
+ghost use Rattle.box_lanes.specs.CoarseBoxes.{meets, may_meet, IsRough, Fits32};
 
 use crate::blocks::{Block, LANES, fill, fill_by};
 use crate::reach::{Reach, Rough, reach_of, rough_of};
@@ -154,7 +154,7 @@ impl BoxTable {
     }
 
     /// Adds the places of the boxes of a block of eight, from the place `from` on, that meet `reach`, which is `rough`
-    /// in steps of 32. Most blocks have none, and are left after one test.
+    /// in steps of 256. Most blocks have none, and are left after one test.
     #[inline(always)]
     fn add_block(
         &self,
@@ -251,7 +251,7 @@ impl BoxTable {
     }
 
     /// A bit for each of the eight boxes from `at` on, the first the lowest: whether the box meets `reach` in steps
-    /// of 32, in which it is `rough`. Bits of boxes behind the table's may be any.
+    /// of 256, in which it is `rough`. Bits of boxes behind the table's may be any.
     #[inline(always)]
     fn coarse_lanes(&self, at: usize, reach: &Reach, rough: &Rough) -> u64
         requires within { at < length self.now }

@@ -1,7 +1,7 @@
 //! The filter as it is defined, box by box.
 ghost use Rattle.std.specs.Prelude.{◌≡◌, ◌<◌, ◌^◌, length, nat_le, IfOk};
 ghost use Rattle.bim_model.specs.Gaps.{gap, is_within};
-ghost use Rattle.box_lanes.specs.Places.{places_within};
+ghost use Rattle.box_lanes.specs.BoxPlaces.{places_within};
 
 use bim_model::Extent;
 use std::alloc::{AllocError, Global};

@@ -2,8 +2,8 @@
 ghost use Rattle.std.specs.Prelude.{◌≡◌, cond, ◌+ℤ◌, ◌-ℤ◌, pos, int_lt};
 ghost use Rattle.std.specs.Int.{saturate_signed, w32};
 ghost use Rattle.bim_model.specs.declared.geometry.Extent.{Extent};
-ghost use Rattle.box_lanes.specs.Places.{is_within_from};
-ghost use Rattle.box_lanes.specs.Lanes.{meets, IsRough, Fits32};
+ghost use Rattle.box_lanes.specs.BoxPlaces.{is_within_from};
+ghost use Rattle.box_lanes.specs.CoarseBoxes.{meets, IsRough, Fits32};
 
 use crate::blocks::{LANES, coarse_of};
 use bim_model::{Extent, Point};
@@ -19,7 +19,7 @@ pub struct Reach {
     pub later_z: bool,
 }
 
-/// A reach in steps of 32, and for each axis the number of the list of sides that is compared with its low end.
+/// A reach in steps of 256, and for each axis the number of the list of sides that is compared with its low end.
 #[derive(Clone, Copy)]
 pub struct Rough {
     pub sides: [i16; LANES],

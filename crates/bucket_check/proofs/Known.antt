@@ -12,8 +12,7 @@ use Rattle.bim_model.specs.declared.rules.Found.{Found}
 use Rattle.bim_model.specs.Boxes.{corners_of}
 use Rattle.bim_model.specs.Models.{farthest, IsInReach, IsModelled}
 use Rattle.bim_model.specs.Points.{grid_limit, IsGridPoint, IsInGrid}
-use Rattle.bim_model.specs.declared.limits.TheConstants.{MOST_DISTANCE}
-use Rattle.bim_model.specs.Rules.{fits, decided, rule_from, rule_of, distance_of, greatest_distance, IsRule, IsRules}
+use Rattle.bim_model.specs.Rules.{fits, decided, rule_from, rule_of, distance_of, greatest_distance}
 use Rattle.clearance.specs.Near.{ElementInGrid}
 
 coordinate : (n : ℤ) → (pos 0 -ℤ farthest) ≤ℤ n → n ≤ℤ farthest → unsigned_abs n ≤ grid_limit
@@ -57,17 +56,3 @@ rule_at_most (r ∷ rules) n a b same f e =
 
 pub at_most : (rules : List Rule) (a b : Element) (same : Bool) (f : Found) → rule_of rules a b same ≡ Some f → f.distance ≤ greatest_distance rules
 at_most rules a b same f e = rule_at_most rules 0 a b same f e
-
--- which is within the bounds
-greatest_small : (rules : List Rule) → All IsRule rules → greatest_distance rules ≤ MOST_DISTANCE
-greatest_small [] h = omega arith
-greatest_small (r ∷ rules) h =
-    let first = (All-head IsRule r rules h).near in
-    let rest = greatest_small rules (All-tail IsRule r rules h) in
-    omega (arith, first, rest)
-
-pub small_distance : (rules : List Rule) (a b : Element) (same : Bool) (f : Found) → IsRules rules → rule_of rules a b same ≡ Some f → f.distance ≤ MOST_DISTANCE
-small_distance rules a b same f h e =
-    let first = at_most rules a b same f e in
-    let rest = greatest_small rules h.each in
-    omega (arith, first, rest)

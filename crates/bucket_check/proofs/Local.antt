@@ -8,7 +8,7 @@ use Rattle.bim_model.specs.declared.geometry.Extent.{Extent}
 use Rattle.bim_model.specs.Rules.{IsRules}
 use Rattle.bim_model.specs.Snapshots.{Version}
 use Rattle.bim_model.specs.Keys.{subjects_of}
-use Rattle.box_lanes.specs.Places.{box_at}
+use Rattle.box_lanes.specs.BoxPlaces.{box_at}
 use Rattle.bucket_grid.specs.declared.cell.Cell.{Cell}
 use Rattle.bucket_grid.specs.Cells.{holds, members, IsOwner}
 use Rattle.bucket_grid.specs.Subjects.{subject_at, IsBoxOf, AreBoxes}
@@ -16,7 +16,7 @@ use Rattle.bucket_grid.proofs.Zips.{zip_length}
 use Rattle.bucket_grid.proofs.Rising.{places_rise, places_within}
 use Rattle.bucket_check.specs.declared.pair.SetPair.{SetPair}
 use Rattle.bucket_check.specs.Clashes.{clash_of, is_cell, owner, own_clashes, IsBefore}
-use Rattle.bucket_check.specs.Sets.{own_rule, rule_at, number_at, pair_at, found_among}
+use Rattle.bucket_check.specs.ClashSets.{own_rule, rule_at, number_at, pair_at, found_among}
 use Rattle.bucket_check.proofs.Lists.{lists_one}
 use Rattle.bucket_check.proofs.Pairs.{once, IsPairBy, pairs_list}
 use Rattle.bucket_check.proofs.Owned.{clash_owned, member}

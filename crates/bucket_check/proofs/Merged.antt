@@ -11,10 +11,10 @@ use Rattle.bim_model.specs.Keys.{subjects_of}
 use Rattle.bucket_grid.specs.declared.cell.Cell.{Cell}
 use Rattle.bucket_grid.specs.Subjects.{AreBoxes}
 use Rattle.bucket_grid.specs.Cells.{IsBucket, IsOwner}
-use Rattle.box_lanes.specs.Places.{box_at}
+use Rattle.box_lanes.specs.BoxPlaces.{box_at}
 use Rattle.bucket_check.specs.declared.pair.SetPair.{SetPair}
 use Rattle.bucket_check.specs.Clashes.{clashes, is_cell, owner, own_clashes, IsBefore}
-use Rattle.bucket_check.specs.Laws.{IsOfBucket}
+use Rattle.bucket_check.specs.OwnershipLaws.{IsOfBucket}
 use Rattle.bucket_check.proofs.Lists.{Lists, lists_filter, lists_one}
 use Rattle.bucket_check.proofs.Pairs.{once}
 use Rattle.bucket_check.proofs.Owned.{IsClash, clashes_list, clash_owned, owner_is_bucket}

@@ -5,12 +5,15 @@ use Rattle.std.specs.Str.{bytes_eq}
 use Rattle.bim_model.specs.declared.geometry.Extent.{Extent}
 use Rattle.bim_model.specs.declared.element.Element.{Element}
 use Rattle.bim_model.specs.declared.rules.Rule.{Rule}
+use Rattle.bim_model.specs.declared.rules.Meeting.{Meeting}
+use Rattle.bim_model.specs.declared.rules.Meeting.TheVariants.{Within}
 use Rattle.bim_model.specs.declared.rules.Found.{Found}
+use Rattle.bim_model.specs.Distances.{in_grid_numbers}
 use Rattle.bim_model.specs.Rules.{IsRules}
 use Rattle.bim_model.specs.Keys.{Subject}
-use Rattle.clearance.specs.Decided.{is_near}
+use Rattle.clearance.specs.Near.{ElementsNear}
 use Rattle.clearance.proofs.Decided.{elements_decided}
-use Rattle.box_lanes.specs.Places.{box_at, nowhere}
+use Rattle.box_lanes.specs.BoxPlaces.{box_at, nowhere}
 use Rattle.bucket_grid.specs.declared.cell.Cell.{Cell}
 use Rattle.bucket_grid.specs.Cells.{holds, members, IsOwner, IsBucket}
 use Rattle.bucket_grid.specs.Subjects.{subject_at, nobody, IsBoxOf, AreBoxes}
@@ -19,7 +22,7 @@ use Rattle.bucket_grid.proofs.Owners.{owner_of_both}
 use Rattle.bucket_grid.proofs.Near.{near_elements}
 use Rattle.bucket_grid.proofs.Members.{listed, two_listed}
 use Rattle.bucket_check.specs.declared.pair.SetPair.{SetPair}
-use Rattle.bucket_check.specs.Clashes.{in_grid_numbers, rule_between, clash_by, clash_of, clashes_among, owner, IsBefore}
+use Rattle.bucket_check.specs.Clashes.{meet_by, rule_between, clash_by, clash_of, clashes_among, owner, IsBefore}
 use Rattle.bucket_check.proofs.Lists.{Lists}
 use Rattle.bucket_check.proofs.Pairs.{IsPairBy, pairs_list}
 
@@ -31,16 +34,20 @@ number_in (Some n) = n
 pub record Why (o : Option Found) (x y : Element) (r : ℕ) : Type 0 where
   pub found : Found
   pub is : o ≡ Some found
-  pub near : is_near x y (in_grid_numbers found.distance) ≡ true
+  pub met : meet_by found.meeting found.distance x y ≡ true
   pub rule : found.rule ≡ r
 
-near_by : (f : Found) (x y : Element) (r : ℕ) (b : Bool) → is_near x y (in_grid_numbers f.distance) ≡ b → cond b (Some f.rule) None ≡ Some r → Why (Some f) x y r
-near_by f x y r true e h = record { found = f; is = refl; near = e; rule = ap number_in h }
-near_by f x y r false e h = cc
+met_by : (f : Found) (x y : Element) (r : ℕ) (b : Bool) → meet_by f.meeting f.distance x y ≡ b → cond b (Some f.rule) None ≡ Some r → Why (Some f) x y r
+met_by f x y r true e h = record { found = f; is = refl; met = e; rule = ap number_in h }
+met_by f x y r false e h = cc
 
 pub why : (o : Option Found) (x y : Element) (r : ℕ) → clash_by o x y ≡ Some r → Why o x y r
 why None x y r e = cc
-why (Some f) x y r e = near_by f x y r (is_near x y (in_grid_numbers f.distance)) refl e
+why (Some f) x y r e = met_by f x y r (meet_by f.meeting f.distance x y) refl e
+
+-- elements that meet at a distance are near at it
+pub met_near : (m : Meeting) (d : ℕ) (x y : Element) → meet_by m d x y ≡ true → ElementsNear x y (in_grid_numbers d)
+met_near Within d x y e = (elements_decided x y (in_grid_numbers d)).0 e
 
 -- a clash, by its numbers
 abbrev pub IsClash : List Rule → List Subject → SetPair → Type 0
@@ -59,7 +66,7 @@ module _ (rules : List Rule) (subjects : List Subject) (boxes : List Extent) (fe
       let s = subject_at subjects p.a in
       let t = subject_at subjects p.b in
       let w = why (rule_between rules s t) s.element t.element p.rule c.decided in
-      let near = (elements_decided s.element t.element (in_grid_numbers w.found.distance)).0 w.near in
+      let near = met_near w.found.meeting w.found.distance s.element t.element w.met in
       let o = near_elements rules s.element t.element (bytes_eq s.name t.name) w.found (box_at boxes p.a) (box_at boxes p.b) few w.is near (box_is p.a (omega (arith, c.below, c.within))) (box_is p.b c.within) in
       owner_of_both (box_at boxes p.a) (box_at boxes p.b) o.owner o.is.holds_a o.is.holds_b
 

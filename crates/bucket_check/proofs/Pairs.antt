@@ -3,7 +3,7 @@ use Rattle.std.proofs.Common.{◌≡◌, ℕ, ◌<◌, inl, inr, Bool, true, fal
 use Rattle.std.specs.List.{AllPairs, All, Any, Contains, flat_map}
 use Rattle.std.proofs.lemmas.Bool.{lt-ltb, ltb-true}
 use Rattle.std.proofs.lemmas.List.Elements.{All-nil, All-cons, All-contains}
-use Rattle.bucket_grid.specs.Table.{upto}
+use Rattle.bucket_grid.specs.BucketTable.{upto}
 use Rattle.bucket_grid.proofs.Parts.{flat_all, flat_any, flat_pairs}
 use Rattle.bucket_check.specs.declared.pair.SetPair.{SetPair}
 use Rattle.bucket_check.specs.Clashes.{pair_if, pairs_by, IsBefore}

@@ -3,7 +3,7 @@ use Rattle.std.proofs.Common.{◌≡◌, ℕ, zero, suc, ◌+◌, ◌-◌, ◌*�
 use Rattle.std.specs.List.{All, flat_map}
 use Rattle.std.specs.Str.{bytes_eq}
 use Rattle.std.proofs.lemmas.Bool.{cases_lt, and_parts, and_from, le-leb, leb-true, lt-leb}
-use Rattle.std.proofs.Math.Nat.{suc-mul, mul-suc, mul-le-mul_right}
+use Rattle.std.proofs.Math.Nat.{suc-mul, mul-suc}
 use Rattle.std.proofs.lemmas.List.{length-map, get_or-map, length-drop}
 use Rattle.std.proofs.lemmas.List.Elements.{filter-append, All-filter, All-same}
 use Rattle.std.specs.Int.{w32, int_max}
@@ -13,30 +13,29 @@ use mir.Val.{SFits}
 use Rattle.bim_model.specs.Points.{grid_limit}
 use Rattle.bim_model.specs.declared.geometry.Point.{Point}
 use Rattle.bim_model.specs.declared.geometry.Extent.{Extent}
-use Rattle.bim_model.specs.declared.geometry.TheConstants.{PER_MM}
+use Rattle.bim_model.specs.Distances.{in_grid_numbers}
 use Rattle.bim_model.specs.Rules.{greatest_distance}
 use Rattle.bim_model.specs.Gaps.{gap, is_within}
 use Rattle.bim_model.specs.Snapshots.{Version}
 use Rattle.bim_model.specs.Keys.{Subject, subjects_of}
-use Rattle.clearance.proofs.Decided.{elements_decided}
 use Rattle.clearance.proofs.Surfaces.{elements_within}
-use Rattle.box_lanes.specs.Places.{places_from, part, later_within, is_close_from, is_within_from, box_at, nowhere}
+use Rattle.box_lanes.specs.BoxPlaces.{places_from, part, later_within, is_close_from, is_within_from, box_at, nowhere}
 use Rattle.box_lanes.proofs.Places.{places-cons}
 use Rattle.box_lanes.proofs.Bits.{part_more, part_all, part_none}
 use Rattle.bucket_grid.specs.declared.cell.Cell.{Cell}
 use Rattle.bucket_grid.specs.Cells.{owner_of, first_cell, first_low, start_of}
-use Rattle.bucket_grid.specs.Places.{IsGridBox}
+use Rattle.bucket_grid.specs.ElementPlaces.{IsGridBox}
 use Rattle.bucket_grid.proofs.Points.{first_low_at_most}
 use Rattle.bucket_grid.specs.Subjects.{subject_at, nobody, IsBoxOf, AreBoxes}
 use Rattle.bucket_grid.proofs.Zips.{zip_at, zip_length}
-use Rattle.bucket_grid.specs.Table.{upto}
+use Rattle.bucket_grid.specs.BucketTable.{upto}
 use Rattle.bucket_grid.proofs.Parts.{all_upto}
 use Rattle.bucket_check.specs.declared.pair.SetPair.{SetPair}
-use Rattle.bucket_check.specs.Clashes.{in_grid_numbers, rule_between, clash_of, is_cell, pair_if, row_by}
-use Rattle.bucket_check.specs.Sets.{own_rule, number_at, rule_at}
+use Rattle.bucket_check.specs.Clashes.{rule_between, clash_of, is_cell, pair_if, row_by}
+use Rattle.bucket_check.specs.ClashSets.{own_rule, number_at, rule_at}
 use Rattle.bucket_check.proofs.Lists.{flat_same}
 use Rattle.bucket_check.proofs.Merged.{one_cell}
-use Rattle.bucket_check.proofs.Owned.{why}
+use Rattle.bucket_check.proofs.Owned.{why, met_near}
 use Rattle.bucket_check.proofs.Known.{at_most}
 
 -- ---- the filter's places, as those below a bound that pass
@@ -142,6 +141,9 @@ cond_none false o e = refl
 abbrev pub reach : Version → ℕ
 reach version = in_grid_numbers (greatest_distance version.rules)
 
+farther : (d g : ℕ) → d ≤ g → in_grid_numbers d ≤ in_grid_numbers g
+farther d g h = omega (arith, h)
+
 module _ (version : Version) (boxes : List Extent) (cell : Cell) (are : AreBoxes (subjects_of version.models) boxes) (near : All IsGridBox boxes) where
   abbrev subject : ℕ → Subject
   subject n = subject_at (subjects_of version.models) n
@@ -160,9 +162,9 @@ module _ (version : Version) (boxes : List Extent) (cell : Cell) (are : AreBoxes
       let t = subject b in
       let w = why (rule_between version.rules s t) s.element t.element r e in
       let m = at_most version.rules s.element t.element (bytes_eq s.name t.name) w.found w.is in
-      let near = (elements_decided s.element t.element (in_grid_numbers w.found.distance)).0 w.near in
+      let near = met_near w.found.meeting w.found.distance s.element t.element w.met in
       let close = elements_within s.element t.element (box_at boxes a) (box_at boxes b) (in_grid_numbers w.found.distance) (is_box a h) (is_box b k) near in
-      let far : in_grid_numbers w.found.distance ≤ (reach version) = mul-le-mul_right (unsigned_abs PER_MM) m in
+      let far : in_grid_numbers w.found.distance ≤ (reach version) = farther w.found.distance (greatest_distance version.rules) m in
       let yes = wider (box_at boxes a) (box_at boxes b) (in_grid_numbers w.found.distance) (reach version) far close in
       true≢false (sym (close_from cell (box_at boxes a) (box_at boxes b) (reach version) (grid_box a h) (grid_box b k) owned yes) ∙ off))
 

@@ -12,7 +12,7 @@ use Rattle.bucket_grid.specs.Grids.{GridValue}
 use Rattle.bucket_grid.proofs.Rising.{places_within}
 use Rattle.bucket_check.specs.declared.pair.SetPair.{SetPair}
 use Rattle.bucket_check.specs.Clashes.{pairs_by}
-use Rattle.bucket_check.specs.Sets.{rule_at, found_among, own_places}
+use Rattle.bucket_check.specs.ClashSets.{rule_at, found_among, own_places}
 use Rattle.bucket_check.proofs.Row.{count_places, triangle}
 
 -- what was made for one more place

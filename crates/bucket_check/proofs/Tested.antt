@@ -7,12 +7,11 @@ use Rattle.bim_model.specs.declared.rules.Rule.{Rule}
 use Rattle.bim_model.specs.declared.rules.Found.{Found}
 use Rattle.bim_model.specs.Rules.{rule_of}
 use Rattle.bim_model.specs.Keys.{Subject}
-use Rattle.clearance.specs.Decided.{is_near}
-use Rattle.box_lanes.specs.Places.{box_at}
+use Rattle.box_lanes.specs.BoxPlaces.{box_at}
 use Rattle.bucket_grid.specs.declared.cell.Cell.{Cell}
 use Rattle.bucket_grid.specs.Cells.{owner_of}
 use Rattle.bucket_check.specs.declared.pair.SetPair.{SetPair}
-use Rattle.bucket_check.specs.Clashes.{in_grid_numbers, rule_between, clash_by, clash_of, pair_if}
+use Rattle.bucket_check.specs.Clashes.{meet_by, rule_between, clash_by, clash_of, pair_if}
 
 abbrev cell : ℤ → ℤ → ℤ → Cell
 cell x y z = record { x = x; y = y; z = z }
@@ -25,12 +24,12 @@ pub owner_is : (boxes all : List Extent) (a b : ℕ) (k : Cell) → all ≡ boxe
     → k ≡ owner_of (box_at boxes a) (box_at boxes b)
 owner_is boxes all a b k e x y z = same_cell k (owner_of (box_at all a) (box_at all b)) x y z ∙ ap (λ l. owner_of (box_at l a) (box_at l b)) e
 
--- two elements that are near at a rule's distance, or not
-pub near_then : (f : Found) (x y : Element) (near : Bool) → near ≡ is_near x y (in_grid_numbers f.distance) → near ≡ true → Some f.rule ≡ clash_by (Some f) x y
-near_then f x y near e h = ap (λ b. cond b (Some f.rule) None) (sym h ∙ e)
+-- two elements that meet as a rule asks, or not
+pub met_then : (f : Found) (x y : Element) (met : Bool) → met ≡ meet_by f.meeting f.distance x y → met ≡ true → Some f.rule ≡ clash_by (Some f) x y
+met_then f x y met e h = ap (λ b. cond b (Some f.rule) None) (sym h ∙ e)
 
-pub near_else : (f : Found) (x y : Element) (near : Bool) → near ≡ is_near x y (in_grid_numbers f.distance) → near ≡ false → None ≡ clash_by (Some f) x y
-near_else f x y near e h = ap (λ b. cond b (Some f.rule) None) (sym h ∙ e)
+pub met_else : (f : Found) (x y : Element) (met : Bool) → met ≡ meet_by f.meeting f.distance x y → met ≡ false → None ≡ clash_by (Some f) x y
+met_else f x y met e h = ap (λ b. cond b (Some f.rule) None) (sym h ∙ e)
 
 -- the rule that was found of two elements of a version decides
 pub decides : (rules : List Rule) (s t : Subject) (rs : List Rule) (x y : Element) (same : Bool) (o : Option Found) → rs ≡ rules → x ≡ s.element → y ≡ t.element → same ≡ bytes_eq s.name t.name → o ≡ rule_of rs x y same

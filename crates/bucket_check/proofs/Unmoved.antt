@@ -7,25 +7,28 @@ use Rattle.bim_model.specs.declared.geometry.Extent.{Extent}
 use Rattle.bim_model.specs.declared.element.Element.{Element}
 use Rattle.bim_model.specs.declared.keys.ElementKey.{ElementKey}
 use Rattle.bim_model.specs.declared.rules.Rule.{Rule}
+use Rattle.bim_model.specs.declared.rules.Meeting.{Meeting}
+use Rattle.bim_model.specs.declared.rules.Meeting.TheVariants.{Within}
 use Rattle.bim_model.specs.declared.rules.Found.{Found}
+use Rattle.bim_model.specs.Distances.{in_grid_numbers}
 use Rattle.bim_model.specs.Rules.{passes_classes, passes_storeys, passes_level, passes_models, fits, decided, rule_from}
 use Rattle.bim_model.specs.Boxes.{IsExtentOf}
 use Rattle.bim_model.specs.Keys.{Subject, subjects_of}
 use Rattle.bim_model.specs.declared.geometry.Triangle.{Triangle}
 use Rattle.bim_model.proofs.Unique.{extent_same}
 use Rattle.clearance.specs.Decided.{is_near_lists, is_near}
-use Rattle.box_lanes.specs.Places.{box_at, nowhere}
+use Rattle.box_lanes.specs.BoxPlaces.{box_at, nowhere}
 use Rattle.bucket_grid.specs.declared.cell.Cell.{Cell}
 use Rattle.bucket_grid.specs.Cells.{holds, members, owner_of}
 use Rattle.bucket_grid.specs.Subjects.{subject_at, nobody, IsBoxOf, AreBoxes}
 use Rattle.bucket_grid.specs.Grids.{GridValue}
-use Rattle.bucket_grid.specs.Table.{upto}
+use Rattle.bucket_grid.specs.BucketTable.{upto}
 use Rattle.bucket_grid.proofs.Zips.{zip_at, zip_length}
 use Rattle.bucket_grid.proofs.Parts.{all_upto}
 use Rattle.bucket_grid.proofs.Rising.{places_within}
 use Rattle.bucket_check.proofs.Lists.{flat_same}
-use Rattle.bucket_check.specs.Clashes.{in_grid_numbers, rule_between, clash_by, clash_of, is_cell, pair_if, pairs_by}
-use Rattle.bucket_check.specs.Sets.{rule_at, number_at, own_places, IsSame, subjects_at, IsUnmoved}
+use Rattle.bucket_check.specs.Clashes.{meet_by, rule_between, clash_by, clash_of, is_cell, pair_if, pairs_by}
+use Rattle.bucket_check.specs.ClashSets.{rule_at, number_at, own_places, IsSame, subjects_at, IsUnmoved}
 
 -- rules that agree below n list the same pairs
 pairs_like : (n : ℕ) (f g : ℕ → ℕ → Option ℕ) → ((a b : ℕ) → a < n → b < n → f a b ≡ g a b) → pairs_by n f ≡ pairs_by n g
@@ -61,9 +64,12 @@ near_like : (x y u v : Element) (d : ℕ) → Like x u → Like y v → is_near 
 unfolding is_near
 near_like x y u v d h k = ap₂ (λ ps qs. is_near_lists ps qs d) h.triangles k.triangles
 
+meet_like : (m : Meeting) (d : ℕ) (x y u v : Element) → Like x u → Like y v → meet_by m d x y ≡ meet_by m d u v
+meet_like Within d x y u v h k = near_like x y u v (in_grid_numbers d) h k
+
 by_like : (o : Option Found) (x y u v : Element) → Like x u → Like y v → clash_by o x y ≡ clash_by o u v
 by_like None x y u v h k = refl
-by_like (Some f) x y u v h k = ap (λ b. cond b (Some f.rule) None) (near_like x y u v (in_grid_numbers f.distance) h k)
+by_like (Some f) x y u v h k = ap (λ b. cond b (Some f.rule) None) (meet_like f.meeting f.distance x y u v h k)
 
 name_of : (s t : Subject) → IsSame s t → s.name ≡ t.name
 name_of s t h = ap (λ (k : ElementKey). k.model) h.key

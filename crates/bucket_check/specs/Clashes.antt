@@ -2,15 +2,17 @@
 --
 -- An element of a version is spoken of by its number: its place in the list of all elements by rising key. So
 -- of two elements the one with the lower number has the lower key.
-use Rattle.std.specs.Prelude.{ℕ, ◌*◌, ◌<◌, ◌⊎◌, ◌≡◌, nat_lt, unsigned_abs, Bool, ◌&&◌, cond, List, [], ◌∷◌, length, filter, Option, Some, None}
+use Rattle.std.specs.Prelude.{ℕ, ◌<◌, ◌⊎◌, ◌≡◌, nat_lt, Bool, ◌&&◌, cond, List, [], ◌∷◌, length, filter, Option, Some, None}
 use Rattle.std.specs.List.{flat_map}
 use Rattle.std.specs.Ordering.{int_eq}
 use Rattle.std.specs.Str.{bytes_eq}
-use Rattle.bim_model.specs.declared.geometry.TheConstants.{PER_MM}
 use Rattle.bim_model.specs.declared.geometry.Extent.{Extent}
 use Rattle.bim_model.specs.declared.element.Element.{Element}
 use Rattle.bim_model.specs.declared.rules.Rule.{Rule}
+use Rattle.bim_model.specs.declared.rules.Meeting.{Meeting}
+use Rattle.bim_model.specs.declared.rules.Meeting.TheVariants.{Within}
 use Rattle.bim_model.specs.declared.rules.Found.{Found}
+use Rattle.bim_model.specs.Distances.{in_grid_numbers}
 use Rattle.bim_model.specs.Rules.{rule_of}
 use Rattle.bim_model.specs.Snapshots.{Version}
 use Rattle.bim_model.specs.Keys.{Subject, subjects_of}
@@ -18,24 +20,24 @@ use Rattle.clearance.specs.Decided.{is_near}
 use Rattle.bucket_grid.specs.declared.cell.Cell.{Cell}
 use Rattle.bucket_grid.specs.Cells.{owner_of}
 use Rattle.bucket_grid.specs.Subjects.{subject_at}
-use Rattle.box_lanes.specs.Places.{box_at}
-use Rattle.bucket_grid.specs.Table.{upto}
+use Rattle.box_lanes.specs.BoxPlaces.{box_at}
+use Rattle.bucket_grid.specs.BucketTable.{upto}
 use Rattle.bucket_check.specs.declared.pair.SetPair.{SetPair}
-
--- a rule's distance in grid numbers
-abbrev pub in_grid_numbers : ℕ → ℕ
-in_grid_numbers distance = distance * unsigned_abs PER_MM
 
 -- the rule of two elements of a version, which are of one model where the names of their models agree
 abbrev pub rule_between : List Rule → Subject → Subject → Option Found
 rule_between rules a b = rule_of rules a.element b.element (bytes_eq a.name b.name)
 
--- the number of a rule that decides for two elements, where they are near at its distance
+-- two elements meet in that way, at a distance in millimetres
+abbrev pub meet_by : Meeting → ℕ → Element → Element → Bool
+meet_by Within distance a b = is_near a b (in_grid_numbers distance)
+
+-- the number of a rule that decides for two elements, where they meet as it asks
 abbrev pub clash_by : Option Found → Element → Element → Option ℕ
 clash_by None a b = None
-clash_by (Some found) a b = cond (is_near a b (in_grid_numbers found.distance)) (Some found.rule) None
+clash_by (Some found) a b = cond (meet_by found.meeting found.distance a b) (Some found.rule) None
 
--- the rule by which two elements clash: their rule, where they are near at its distance
+-- the rule by which two elements clash: their rule, where they meet as it asks
 abbrev pub clash_of : List Rule → Subject → Subject → Option ℕ
 clash_of rules a b = clash_by (rule_between rules a b) a.element b.element
 

@@ -1,3 +1,3 @@
 pub mod Clashes
-pub mod Sets
-pub mod Laws
+pub mod ClashSets
+pub mod OwnershipLaws

@@ -1,5 +1,5 @@
 //! What follows of the definitions alone.
-ghost use Rattle.bucket_check.specs.Laws.{ClashesAreOwned, ClashesAreOwnedOnce, PartsAreClashes, FoundIsOwned};
+ghost use Rattle.bucket_check.specs.OwnershipLaws.{ClashesAreOwned, ClashesAreOwnedOnce, PartsAreClashes, FoundIsOwned};
 
 /// Each clash is owned by one bucket, the least cell of which both elements are members.
 pub fn clashes_are_owned()

@@ -2,21 +2,21 @@
 ghost use Rattle.std.specs.Prelude.{◌≡◌, ℕ, ◌+◌, ◌-◌, ◌*◌, ◌<◌, ◌≤◌, ◌++◌, length, map, All, IfOk, OnOk};
 ghost use Rattle.std.specs.List.{flat_map};
 ghost use Rattle.bim_model.specs.Models.{IsModelled};
+ghost use Rattle.bim_model.specs.Distances.{in_grid_numbers};
 ghost use Rattle.bim_model.specs.Rules.{greatest_distance};
 ghost use Rattle.bim_model.specs.Keys.{subjects_of};
-ghost use Rattle.bim_model.specs.declared.limits.TheConstants.{MOST_DISTANCE};
-ghost use Rattle.box_lanes.specs.Places.{box_at};
+ghost use Rattle.box_lanes.specs.BoxPlaces.{box_at};
 ghost use Rattle.bucket_grid.specs.Cells.{owner_of, start_of, members};
 ghost use Rattle.bucket_grid.specs.Subjects.{subject_at};
 ghost use Rattle.bucket_grid.specs.declared.grid.TheConstants.{MOST_ELEMENTS};
-ghost use Rattle.bucket_check.specs.Clashes.{in_grid_numbers, clash_by, clash_of, is_cell, pair_if, row_by};
-ghost use Rattle.bucket_check.specs.Sets.{own_rule, rule_at, found_among, own_places};
+ghost use Rattle.bucket_check.specs.Clashes.{meet_by, clash_by, clash_of, is_cell, pair_if, row_by};
+ghost use Rattle.bucket_check.specs.ClashSets.{own_rule, rule_at, found_among, own_places};
 
 use crate::bucket_work::BucketWork;
 use crate::pair::SetPair;
 use crate::room::Room;
 use crate::set::BucketSet;
-use bim_model::{Element, Found, Items, PER_MM, Point, Shared, Steps, greatest_distance, rule_of};
+use bim_model::{Element, Found, Items, Meeting, Point, Shared, Steps, greatest_distance, rule_of};
 use bucket_grid::{Cell, Grid, owner_of, start_of};
 use clearance::solids_near;
 use std::alloc::{AllocError, Global};
@@ -38,20 +38,31 @@ fn owns(grid: &Grid, cell: Cell, a: u32, b: u32) -> bool
     is_cell(owner_of(&boxes[a as usize], &boxes[b as usize]), cell)
 }
 
-// The number of a rule that decides for two elements, where they are near at its distance.
-fn rule_if_near<L: Ledger>(
+// Whether two elements meet as a rule asks.
+fn meet<L: Ledger>(found: Found, a: &Element, b: &Element, steps: &mut Steps<L>) -> bool
+    requires a_in { IsModelled a.now }
+    requires b_in { IsModelled b.now }
+    ensures is { result ≡ meet_by found.meeting found.distance a.now b.now }
+    ensures steps { steps.new ≤ steps.old + 1 }
+{
+    match found.meeting {
+        Meeting::Within => solids_near(a, b, found.distance.in_grid_numbers(), steps),
+    }
+}
+
+// The number of a rule that decides for two elements, where they meet as it asks.
+fn rule_if_met<L: Ledger>(
     found: Found,
     a: &Element,
     b: &Element,
     steps: &mut Steps<L>,
 ) -> Option<u32>
-    requires distance { found.distance ≤ MOST_DISTANCE }
     requires a_in { IsModelled a.now }
     requires b_in { IsModelled b.now }
     ensures rule { result ≡ clash_by (Some found) a.now b.now }
     ensures steps { steps.new ≤ steps.old + 1 }
 {
-    if solids_near(a, b, found.distance * PER_MM as u32, steps) {
+    if meet(found, a, b, steps) {
         Some(found.rule)
     } else {
         None
@@ -73,7 +84,7 @@ fn clash_of<L: Ledger>(grid: &Grid, a: u32, b: u32, steps: &mut Steps<L>) -> Opt
     let rules = grid.rules();
     match rule_of(rules, first, second, same_model) {
         None => None,
-        Some(found) => rule_if_near(found, first, second, steps),
+        Some(found) => rule_if_met(found, first, second, steps),
     }
 }
 
@@ -195,7 +206,7 @@ fn found_among<L: Ledger>(
         (λ pairs. pairs.items ≡ found_among grid.now.version grid.now.boxes cell members.now) }
     ensures steps { 2 * steps.new ≤ 2 * steps.old + length members.now * (length members.now - 1) }
 {
-    let greatest = greatest_distance(grid.rules()) * PER_MM as u32;
+    let greatest = greatest_distance(grid.rules()).in_grid_numbers();
     let start = start_of(cell);
     room.table.refill(grid.boxes(), members)?;
     let mut pairs = Vec::new(alloc);

@@ -2,7 +2,7 @@
 ghost use Rattle.std.specs.Prelude.{◌≡◌, map, IfOk};
 ghost use Rattle.bucket_grid.specs.Cells.{members};
 ghost use Rattle.bucket_check.specs.Clashes.{own_clashes};
-ghost use Rattle.bucket_check.specs.Sets.{own_places, pair_at, IsUnmoved};
+ghost use Rattle.bucket_check.specs.ClashSets.{own_places, pair_at, IsUnmoved};
 
 use crate::bucket_work::BucketWork;
 use crate::pair::SetPair;
@@ -19,7 +19,7 @@ pub struct BucketSet {
 
 impl Model for BucketSet {
     ghost use Rattle.std.specs.Prelude.{◌≡◌};
-    ghost use Rattle.bucket_check.specs.Sets.{SetValue, own_places};
+    ghost use Rattle.bucket_check.specs.ClashSets.{SetValue, own_places};
 
     ghost Value = { SetValue };
 

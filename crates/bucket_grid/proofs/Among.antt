@@ -4,7 +4,7 @@ use Rattle.std.specs.List.{All}
 use Rattle.std.proofs.lemmas.List.Elements.{All-filter}
 use Rattle.bucket_grid.specs.declared.lists.Span.{Span}
 use Rattle.bucket_grid.specs.Dealt.{covers, span_at, AreDealt, IsAmong}
-use Rattle.bucket_grid.specs.Table.{among}
+use Rattle.bucket_grid.specs.BucketTable.{among}
 
 pub fewer : (spans other : List Span) (numbers some : List ℕ) (count k : ℕ) → some ≡ among other k numbers → IsAmong spans numbers count → IsAmong spans some count
 fewer spans other numbers some count k e h = record {

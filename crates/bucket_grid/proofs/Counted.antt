@@ -11,9 +11,9 @@ use borrow.Author.Differences.{up}
 use Rattle.bim_model.specs.declared.geometry.Extent.{Extent}
 use Rattle.bucket_grid.specs.declared.cell.Cell.{Cell}
 use Rattle.bucket_grid.specs.Cells.{first_cell, last_cell, is_in, holds, span, cell_count, cell_cmp}
-use Rattle.bucket_grid.specs.Table.{upto, with_x, with_y, with_z}
-use Rattle.bucket_grid.specs.Places.{IsInOrder}
-use Rattle.bucket_grid.specs.Laws.{AreCellsOf}
+use Rattle.bucket_grid.specs.BucketTable.{upto, with_x, with_y, with_z}
+use Rattle.bucket_grid.specs.ElementPlaces.{IsInOrder}
+use Rattle.bucket_grid.specs.GridLaws.{AreCellsOf}
 use Rattle.bucket_grid.proofs.Owners.{own_step, same_cell}
 use Rattle.bucket_grid.proofs.Parts.{flat_suc, flat_all, flat_any, flat_pairs}
 use Rattle.bucket_grid.proofs.Tables.{less_x, less_y, less_z, further, along, above, tested}

@@ -13,7 +13,7 @@ use Rattle.bim_model.specs.declared.named_model.NamedModel.{NamedModel}
 use Rattle.bucket_grid.specs.declared.subjects.Member.{Member}
 use Rattle.bim_model.specs.Keys.{Subject, subjects_of}
 use Rattle.bucket_grid.specs.Subjects.{subject_at, nobody}
-use Rattle.bucket_grid.specs.Places.{IsPlace}
+use Rattle.bucket_grid.specs.ElementPlaces.{IsPlace}
 use Rattle.bucket_grid.proofs.Zips.{zip_at}
 
 abbrev none : Member

@@ -6,7 +6,7 @@ use Rattle.std.proofs.lemmas.List.{take_all, get_or_push, get_or_append_left, le
 use Rattle.std.proofs.Common.{◌⊎◌, inl, inr, ◌++◌, ◌∷◌, [], ap}
 use Rattle.bucket_grid.specs.declared.lists.Span.{Span}
 use Rattle.bucket_grid.specs.Dealt.{span_at}
-use Rattle.bucket_grid.specs.Table.{AreSpans}
+use Rattle.bucket_grid.specs.BucketTable.{AreSpans}
 use Rattle.std.proofs.lemmas.List.Elements.{All-more, All-weaker}
 use Rattle.bim_model.specs.declared.geometry.Extent.{Extent}
 use Rattle.bucket_grid.specs.declared.axis_cells.Axis.{Axis}

@@ -1,18 +1,17 @@
 -- Elements that are near at the distance of their rule have boxes that are close, and close boxes have one owner.
-use Rattle.std.proofs.Common.{◌≡◌, ℕ, ◌+◌, ◌*◌, ◌<◌, ◌≤◌, leb, ℤ, pos, negsuc, ◌+ℤ◌, ◌-ℤ◌, ◌≤ℤ◌, unsigned_abs, Bool, true, false, cond, List, [], ◌∷◌, length, All, Option, Some, None, subst, arith}
+use Rattle.std.proofs.Common.{◌≡◌, ℕ, ◌+◌, ◌<◌, ◌≤◌, leb, ℤ, pos, negsuc, ◌+ℤ◌, ◌-ℤ◌, ◌≤ℤ◌, Bool, true, false, cond, List, [], ◌∷◌, length, All, Option, Some, None, subst, arith}
 use Rattle.std.proofs.lemmas.Int.{ints}
 use Rattle.std.proofs.lemmas.Bool.{and_parts, leb-true}
 use Rattle.std.proofs.lemmas.List.Elements.{All-head, All-tail}
 use borrow.Author.Differences.{up}
-use Rattle.bim_model.specs.declared.geometry.TheConstants.{PER_MM}
 use Rattle.bim_model.specs.declared.geometry.Triangle.{Triangle}
 use Rattle.bim_model.specs.declared.geometry.Extent.{Extent}
 use Rattle.bim_model.specs.declared.element.Element.{Element}
-use Rattle.bim_model.specs.declared.limits.TheConstants.{MOST_DISTANCE}
 use Rattle.bim_model.specs.declared.rules.Rule.{Rule}
 use Rattle.bim_model.specs.declared.rules.RuleKind.{RuleKind}
 use Rattle.bim_model.specs.declared.rules.RuleKind.TheVariants.{Clash, Ignore}
 use Rattle.bim_model.specs.declared.rules.Found.{Found}
+use Rattle.bim_model.specs.Distances.{IsDistance, in_grid_numbers}
 use Rattle.bim_model.specs.Rules.{fits, decided, rule_from, rule_of, distance_of, IsRule, IsRules}
 use Rattle.bim_model.specs.Boxes.{IsExtentOf}
 use Rattle.bim_model.specs.Gaps.{gap, is_within}
@@ -20,8 +19,8 @@ use Rattle.clearance.specs.Near.{ListsNear, ElementsNear}
 use Rattle.clearance.proofs.Surfaces.{elements_within}
 use Rattle.bucket_grid.specs.declared.cell.TheConstants.{GROWTH}
 use Rattle.bucket_grid.specs.Cells.{owner_of}
-use Rattle.bucket_grid.specs.Places.{IsInOrder}
-use Rattle.bucket_grid.specs.Laws.{HaveOneOwner}
+use Rattle.bucket_grid.specs.ElementPlaces.{IsInOrder}
+use Rattle.bucket_grid.specs.GridLaws.{HaveOneOwner}
 use Rattle.bucket_grid.proofs.Owners.{Close, CloseBoxes, owner_is_least}
 use Rattle.bucket_grid.proofs.OneOwner.{one_owner}
 use Rattle.bucket_grid.proofs.Reach.{in_order}
@@ -31,15 +30,15 @@ abbrev distance_in : Option Found → ℕ
 distance_in None = 0
 distance_in (Some f) = f.distance
 
-decided_small : (kind : RuleKind) (n : ℕ) (f : Found) → distance_of kind ≤ MOST_DISTANCE → decided kind n ≡ Some f → f.distance ≤ MOST_DISTANCE
-decided_small (Clash distance) n f s e = let P : Option Found → Type 0 = λ o. distance_in o ≤ MOST_DISTANCE in subst P e s
+decided_small : (kind : RuleKind) (n : ℕ) (f : Found) → IsDistance (distance_of kind) → decided kind n ≡ Some f → IsDistance f.distance
+decided_small (Clash distance) n f s e = let P : Option Found → Type 0 = λ o. IsDistance (distance_in o) in subst P e s
 decided_small Ignore n f s e = cc
 
-chosen_small : (b : Bool) (x y : Option Found) (f : Found) → cond b x y ≡ Some f → (x ≡ Some f → f.distance ≤ MOST_DISTANCE) → (y ≡ Some f → f.distance ≤ MOST_DISTANCE) → f.distance ≤ MOST_DISTANCE
+chosen_small : (b : Bool) (x y : Option Found) (f : Found) → cond b x y ≡ Some f → (x ≡ Some f → IsDistance f.distance) → (y ≡ Some f → IsDistance f.distance) → IsDistance f.distance
 chosen_small true x y f e g h = g e
 chosen_small false x y f e g h = h e
 
-rule_small : (rules : List Rule) (n : ℕ) (a b : Element) (same : Bool) (f : Found) → All IsRule rules → rule_from n rules a b same ≡ Some f → f.distance ≤ MOST_DISTANCE
+rule_small : (rules : List Rule) (n : ℕ) (a b : Element) (same : Bool) (f : Found) → All IsRule rules → rule_from n rules a b same ≡ Some f → IsDistance f.distance
 rule_small [] n a b same f s e = cc
 rule_small (r ∷ rules) n a b same f s e =
     chosen_small (fits r a b same) (decided r.kind n) (rule_from (n + 1) rules a b same) f e
@@ -47,7 +46,7 @@ rule_small (r ∷ rules) n a b same f s e =
     (λ g. rule_small rules (n + 1) a b same f (All-tail IsRule r rules s) g)
 
 -- that is at most a metre
-in_numbers : (d : ℕ) → d ≤ MOST_DISTANCE → pos (d * unsigned_abs PER_MM) ≤ℤ GROWTH
+in_numbers : (d : ℕ) → IsDistance d → pos (in_grid_numbers d) ≤ℤ GROWTH
 in_numbers d h = omega (arith, ints)
 
 -- ---- boxes with a gap of at most a metre are close
@@ -95,8 +94,8 @@ unfolding ElementsNear
 have_some a b d near = some a.triangles b.triangles d near
 
 pub near_elements : (rules : List Rule) (a b : Element) (same : Bool) (found : Found) (k m : Extent) → IsRules rules → rule_of rules a b same ≡ Some found
-    → ElementsNear a b (found.distance * unsigned_abs PER_MM) → IsExtentOf a.triangles k → IsExtentOf b.triangles m → HaveOneOwner k m
+    → ElementsNear a b (in_grid_numbers found.distance) → IsExtentOf a.triangles k → IsExtentOf b.triangles m → HaveOneOwner k m
 near_elements rules a b same found k m h e near f g =
-    let d = found.distance * unsigned_abs PER_MM in
+    let d = in_grid_numbers found.distance in
     let n = have_some a b d near in
     close_boxes k m d (in_order a.triangles k n.0 f) (in_order b.triangles m n.1 g) (in_numbers found.distance (rule_small rules 0 a b same found h.each e)) (elements_within a b k m d f g near)

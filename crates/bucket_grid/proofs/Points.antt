@@ -9,8 +9,8 @@ use Rattle.bim_model.specs.declared.geometry.Extent.{Extent}
 use Rattle.bucket_grid.specs.declared.cell.Cell.{Cell}
 use Rattle.bucket_grid.specs.declared.cell.TheConstants.{SIDE, GROWTH}
 use Rattle.bucket_grid.specs.Cells.{cell_of, first_cell, first_low, last_cell, is_in, holds}
-use Rattle.bucket_grid.specs.Places.{IsInOrder}
-use Rattle.bucket_grid.specs.Laws.{IsAround, IsInCell}
+use Rattle.bucket_grid.specs.ElementPlaces.{IsInOrder}
+use Rattle.bucket_grid.specs.GridLaws.{IsAround, IsInCell}
 use Rattle.bucket_grid.proofs.Owners.{cell_of_rises}
 
 -- a number lies in its cell

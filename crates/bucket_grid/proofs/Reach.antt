@@ -15,7 +15,7 @@ use Rattle.bim_model.specs.Models as boxes
 use Rattle.bim_model.specs.Points.{grid_limit}
 use Rattle.bim_model.specs.Keys.{Subject, in_model}
 use Rattle.bucket_grid.specs.Subjects.{nobody, IsBoxOf}
-use Rattle.bucket_grid.specs.Places.{IsInOrder, IsGridBox}
+use Rattle.bucket_grid.specs.ElementPlaces.{IsInOrder, IsGridBox}
 use Rattle.bucket_grid.proofs.Zips.{zip_append, zip_at, zip_length}
 
 in_reach : (n : ℤ) → (pos 0 -ℤ farthest) ≤ℤ n → n ≤ℤ farthest → unsigned_abs n ≤ grid_limit

@@ -6,8 +6,8 @@ use Rattle.std.proofs.lemmas.List.Quantifiers.{all_pairs_push}
 use Rattle.std.proofs.lemmas.List.Kept.{AllPairs-filter}
 use Rattle.std.proofs.lemmas.List.Elements.{All-filter}
 use Rattle.bim_model.specs.declared.geometry.Extent.{Extent}
-use Rattle.box_lanes.specs.Places.{places_from, box_at}
-use Rattle.bucket_grid.specs.Table.{upto}
+use Rattle.box_lanes.specs.BoxPlaces.{places_from, box_at}
+use Rattle.bucket_grid.specs.BucketTable.{upto}
 use Rattle.bucket_grid.proofs.Parts.{all_upto}
 use Rattle.bucket_grid.proofs.Tables.{places_upto}
 

@@ -9,14 +9,14 @@ use Rattle.std.proofs.lemmas.Int.{ints}
 use Rattle.std.proofs.lemmas.Bool.{and_parts, le-leb, leb-true}
 use Rattle.std.proofs.lemmas.List.Elements.{All-nil, All-cons, All-filter, All-weaker, filter-append, filter_passes}
 use Rattle.bim_model.specs.declared.geometry.Extent.{Extent}
-use Rattle.box_lanes.specs.Places.{places_from, box_at, nowhere}
+use Rattle.box_lanes.specs.BoxPlaces.{places_from, box_at, nowhere}
 use Rattle.box_lanes.proofs.Places.{places_more}
 use Rattle.bucket_grid.specs.declared.cell.Cell.{Cell}
 use Rattle.bucket_grid.specs.declared.lists.Span.{Span}
 use Rattle.bucket_grid.specs.declared.bucket_table.Bucket.{Bucket}
 use Rattle.bucket_grid.specs.Cells.{first_cell, last_cell, holds, members, cell_cmp, IsBucket}
 use Rattle.bucket_grid.specs.Dealt.{covers, span_at}
-use Rattle.bucket_grid.specs.Table.{upto, among, if_bucket, with_x, with_y, with_z, column, slab, table, AreSpans, IsTable}
+use Rattle.bucket_grid.specs.BucketTable.{upto, among, if_bucket, with_x, with_y, with_z, column, slab, table, AreSpans, IsTable}
 use Rattle.bucket_grid.proofs.Parts.{flat_all, flat_any, flat_pairs, all_upto, filter_on, filter-filter}
 
 -- the places that pass, among the numbers

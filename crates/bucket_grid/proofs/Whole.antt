@@ -2,16 +2,17 @@
 use Rattle.std.proofs.Common.{◌≡◌, ℕ, ◌<◌, ◌≤◌, ℤ, List, length, All, sym, subst, arith}
 use Rattle.bim_model.specs.declared.geometry.Extent.{Extent}
 use Rattle.bucket_grid.specs.declared.cell.Cell.{Cell}
+use Rattle.bucket_grid.specs.declared.cell.TheConstants.{MOST_CELLS}
 use Rattle.bucket_grid.specs.declared.lists.Span.{Span}
 use Rattle.bucket_grid.specs.declared.bucket_table.Bucket.{Bucket}
 use Rattle.bucket_grid.specs.Cells.{first_cell, last_cell}
-use Rattle.box_lanes.specs.Places.{box_at}
+use Rattle.box_lanes.specs.BoxPlaces.{box_at}
 use Rattle.bucket_grid.specs.Dealt.{span_at, IsSpan, IsAmong}
-use Rattle.bucket_grid.specs.Table.{upto, table, AreSpans, IsTable}
+use Rattle.bucket_grid.specs.BucketTable.{upto, table, AreSpans, IsTable}
 use Rattle.bucket_grid.proofs.Parts.{all_upto}
 use Rattle.bucket_grid.proofs.Tables.{table_is}
 
-pub among_all : (spans : List Span) (ns : List ℕ) (count n : ℕ) → ns ≡ upto n → length spans ≡ n → count ≤ 4201 → All (IsSpan count) spans → IsAmong spans ns count
+pub among_all : (spans : List Span) (ns : List ℕ) (count n : ℕ) → ns ≡ upto n → length spans ≡ n → count ≤ MOST_CELLS → All (IsSpan count) spans → IsAmong spans ns count
 among_all spans ns count n e l few h = record {
   few = omega (arith, few);
   places = subst (All (λ i. i < length spans)) (sym e) (all_upto (λ i. i < length spans) n (λ i lt. omega (arith, lt, l)));

@@ -7,7 +7,7 @@ use Rattle.bim_model.specs.declared.named_model.NamedModel.{NamedModel}
 use Rattle.bucket_grid.specs.declared.subjects.Member.{Member}
 use Rattle.bim_model.specs.Keys.{Subject, in_model, subjects_from, subjects_of}
 use Rattle.bucket_grid.specs.Subjects.{nobody}
-use Rattle.bucket_grid.specs.Places.{IsPlace}
+use Rattle.bucket_grid.specs.ElementPlaces.{IsPlace}
 
 module _ {A B : Type 0} (R : A → B → Type 0) where
   pub zip_append : (xs : List A) (ys : List B) (us : List A) (vs : List B) → AllZip R xs ys → AllZip R us vs → AllZip R (xs ++ us) (ys ++ vs)

@@ -6,8 +6,8 @@ use Rattle.bucket_grid.specs.declared.axis_cells.Axis.{Axis}
 use Rattle.bucket_grid.specs.declared.axis_cells.Axis.TheVariants.{X, Y, Z}
 use Rattle.bucket_grid.specs.declared.lists.Span.{Span}
 use Rattle.bucket_grid.specs.Cells.{first_cell, last_cell}
-use Rattle.bucket_grid.specs.Table.{AreSpans}
-use Rattle.box_lanes.specs.Places.{box_at}
+use Rattle.bucket_grid.specs.BucketTable.{AreSpans}
+use Rattle.box_lanes.specs.BoxPlaces.{box_at}
 
 -- the low side of a box on an axis
 abbrev pub low_on : Axis → Extent → ℤ

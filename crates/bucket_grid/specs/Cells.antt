@@ -11,7 +11,7 @@ use Rattle.std.specs.declared.cmp.Ordering.TheVariants.{Greater}
 use borrow.Author.Differences.{up}
 use Rattle.bim_model.specs.declared.geometry.Extent.{Extent}
 use Rattle.bim_model.specs.declared.geometry.Point.{Point}
-use Rattle.box_lanes.specs.Places.{places_from}
+use Rattle.box_lanes.specs.BoxPlaces.{places_from}
 use Rattle.bucket_grid.specs.declared.cell.Cell.{Cell}
 use Rattle.bucket_grid.specs.declared.cell.TheConstants.{SIDE, GROWTH}
 

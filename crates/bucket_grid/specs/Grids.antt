@@ -9,8 +9,8 @@ use Rattle.bucket_grid.specs.Cells.{memberships}
 use Rattle.bim_model.specs.Keys.{subjects_of}
 use Rattle.bucket_grid.specs.declared.grid.TheConstants.{MOST_ELEMENTS, MOST_MEMBERSHIPS}
 use Rattle.bucket_grid.specs.Subjects.{AreBoxes}
-use Rattle.bucket_grid.specs.Places.{IsPlace, IsGridBox}
-use Rattle.bucket_grid.specs.Table.{IsTable}
+use Rattle.bucket_grid.specs.ElementPlaces.{IsPlace, IsGridBox}
+use Rattle.bucket_grid.specs.BucketTable.{IsTable}
 
 -- what a grid holds: a version, where its elements stand and their boxes by number, and the buckets
 pub record GridValue : Type 0 where

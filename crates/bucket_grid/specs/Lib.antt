@@ -1,10 +1,10 @@
 pub mod Cells
 pub mod Subjects
 pub mod Dealt
-pub mod Table
-pub mod Slots
-pub mod Places
+pub mod BucketTable
+pub mod BucketSlots
+pub mod ElementPlaces
 pub mod Axes
 pub mod Grids
 pub mod Search
-pub mod Laws
+pub mod GridLaws

@@ -1,8 +1,9 @@
 //! The cells of one axis that hold each box.
 ghost use Rattle.std.specs.Prelude.{◌≡◌, ◌≤◌, ◌≤ℤ◌, pos, ◌-ℤ◌, ◌+ℤ◌, unsigned_abs, IfOk, All};
 ghost use Rattle.bim_model.specs.Points.{grid_limit};
+ghost use Rattle.bucket_grid.specs.declared.cell.TheConstants.{FARTHEST_CELL, MOST_CELLS};
 ghost use Rattle.bucket_grid.specs.Cells.{first_cell, last_cell};
-ghost use Rattle.bucket_grid.specs.Places.{IsGridBox};
+ghost use Rattle.bucket_grid.specs.ElementPlaces.{IsGridBox};
 ghost use Rattle.bucket_grid.specs.Axes.{low_on, high_on, LieIn, span_on, AreSpansOn};
 ghost use Rattle.bucket_grid.specs.Dealt.{IsSpan};
 
@@ -23,7 +24,7 @@ pub enum Axis {
 pub fn first_on(axis: Axis, extent: &Extent) -> i32
     requires { IsGridBox extent.now }
     ensures is { result ≡ first_cell (low_on axis extent.now) }
-    ensures small { unsigned_abs result ≤ 2100 }
+    ensures small { unsigned_abs result ≤ unsigned_abs FARTHEST_CELL }
 {
     match axis {
         Axis::X => first_cell(extent.low.x),
@@ -36,7 +37,7 @@ pub fn first_on(axis: Axis, extent: &Extent) -> i32
 pub fn last_on(axis: Axis, extent: &Extent) -> i32
     requires { IsGridBox extent.now }
     ensures is { result ≡ last_cell (high_on axis extent.now) }
-    ensures small { unsigned_abs result ≤ 2100 }
+    ensures small { unsigned_abs result ≤ unsigned_abs FARTHEST_CELL }
     ensures order { first_cell (low_on axis extent.now) ≤ℤ result }
 {
     match axis {
@@ -106,8 +107,8 @@ pub struct Range {
 pub fn range_on(axis: Axis, boxes: &[Extent]) -> Range
     requires { All IsGridBox boxes.now }
     ensures lie { LieIn axis result.low ((result.low +ℤ pos result.count) -ℤ pos 1) boxes.now }
-    ensures low { unsigned_abs result.low ≤ 2100 }
-    ensures few { result.count ≤ 4201 }
+    ensures low { unsigned_abs result.low ≤ unsigned_abs FARTHEST_CELL }
+    ensures few { result.count ≤ MOST_CELLS }
 {
     let mut least = GRID_LIMIT;
     let mut greatest = -GRID_LIMIT;
@@ -133,8 +134,8 @@ pub fn spans_on(
     boxes: &[Extent],
 ) -> Result<Items<Span>, AllocError>
     requires near { All IsGridBox boxes.now }
-    requires low { unsigned_abs range.low ≤ 2100 }
-    requires few { range.count ≤ 4201 }
+    requires low { unsigned_abs range.low ≤ unsigned_abs FARTHEST_CELL }
+    requires few { range.count ≤ MOST_CELLS }
     requires lie { LieIn axis range.low ((range.low +ℤ pos range.count) -ℤ pos 1) boxes.now }
     ensures are { IfOk result (λ made. AreSpansOn axis range.low boxes.now made) }
     ensures spans { IfOk result (λ made. All (IsSpan range.count) made) }
@@ -149,8 +150,8 @@ pub fn spans_on(
 // The span of a box on the axis.
 fn span_of(axis: Axis, range: Range, extent: &Extent) -> Span
     requires near { IsGridBox extent.now }
-    requires low { unsigned_abs range.low ≤ 2100 }
-    requires few { range.count ≤ 4201 }
+    requires low { unsigned_abs range.low ≤ unsigned_abs FARTHEST_CELL }
+    requires few { range.count ≤ MOST_CELLS }
     requires above { range.low ≤ℤ first_cell (low_on axis extent.now) }
     requires below { last_cell (high_on axis extent.now) ≤ℤ ((range.low +ℤ pos range.count) -ℤ pos 1) }
     ensures first { range.low +ℤ pos result.first ≡ first_cell (low_on axis extent.now) }
@@ -167,7 +168,7 @@ fn span_of(axis: Axis, range: Range, extent: &Extent) -> Span
 pub fn cells_on(axis: Axis, extent: &Extent) -> u64
     requires { IsGridBox extent.now }
     ensures is { result ≡ span_on axis extent.now }
-    ensures small { result ≤ 4201 }
+    ensures small { result ≤ MOST_CELLS }
 {
     (last_on(axis, extent) - first_on(axis, extent)) as u64 + 1
 }

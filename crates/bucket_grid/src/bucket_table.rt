@@ -1,7 +1,8 @@
 //! The table of buckets.
 ghost use Rattle.std.specs.Prelude.{◌≡◌, ◌+◌, ◌<◌, ◌≤◌, ◌++◌, length, IfOk, OnOk, All};
+ghost use Rattle.bucket_grid.specs.declared.cell.TheConstants.{MOST_CELLS};
 ghost use Rattle.bucket_grid.specs.Dealt.{IsAmong};
-ghost use Rattle.bucket_grid.specs.Table.{if_bucket, with_x, with_y, with_z, column, slab, table, IsLow};
+ghost use Rattle.bucket_grid.specs.BucketTable.{if_bucket, with_x, with_y, with_z, column, slab, table, IsLow};
 
 use crate::bucket_part::Part;
 use crate::buckets::Buckets;
@@ -20,7 +21,7 @@ pub struct Bucket {
 // The cell so many places on along x.
 fn with_x(low: Cell, place: usize) -> Cell
     requires low { IsLow low.x }
-    requires few { place ≤ 1000000 }
+    requires few { place ≤ MOST_CELLS }
     ensures { result ≡ with_x low place }
 {
     Cell {
@@ -33,7 +34,7 @@ fn with_x(low: Cell, place: usize) -> Cell
 // The cell so many places on along y.
 fn with_y(low: Cell, place: usize) -> Cell
     requires low { IsLow low.y }
-    requires few { place ≤ 1000000 }
+    requires few { place ≤ MOST_CELLS }
     ensures { result ≡ with_y low place }
 {
     Cell {
@@ -46,7 +47,7 @@ fn with_y(low: Cell, place: usize) -> Cell
 // The cell so many places on along z.
 fn with_z(low: Cell, place: usize) -> Cell
     requires low { IsLow low.z }
-    requires few { place ≤ 1000000 }
+    requires few { place ≤ MOST_CELLS }
     ensures { result ≡ with_z low place }
 {
     Cell {
@@ -66,7 +67,7 @@ fn add_column(
 ) -> Result<(), AllocError>
     requires among { IsAmong spans.now numbers.now (length lists.old) }
     requires low { IsLow low.z }
-    requires few { length lists.old ≤ 1000000 }
+    requires few { length lists.old ≤ MOST_CELLS }
     ensures buckets { OnOk result (buckets.new
         ≡ buckets.old ++ column spans.now low (length lists.old) numbers.now) }
     ensures count { OnOk result (length lists.new ≡ length lists.old) }
@@ -99,8 +100,8 @@ fn add_slab(
     requires among_z { IsAmong axes.now.z numbers.now (length zs.old) }
     requires low_y { IsLow low.y }
     requires low_z { IsLow low.z }
-    requires few_y { length ys.old ≤ 1000000 }
-    requires few_z { length zs.old ≤ 1000000 }
+    requires few_y { length ys.old ≤ MOST_CELLS }
+    requires few_z { length zs.old ≤ MOST_CELLS }
     ensures buckets { OnOk result (buckets.new ≡ buckets.old
         ++ slab axes.now.y axes.now.z low (length ys.old) (length zs.old) numbers.now) }
     ensures count_y { OnOk result (length ys.new ≡ length ys.old) }
@@ -130,9 +131,9 @@ pub fn table_of(
     requires low_x { IsLow low.x }
     requires low_y { IsLow low.y }
     requires low_z { IsLow low.z }
-    requires few_x { counts.0 ≤ 1000000 }
-    requires few_y { counts.1 ≤ 1000000 }
-    requires few_z { counts.2 ≤ 1000000 }
+    requires few_x { counts.0 ≤ MOST_CELLS }
+    requires few_y { counts.1 ≤ MOST_CELLS }
+    requires few_z { counts.2 ≤ MOST_CELLS }
     ensures { IfOk result (λ buckets. buckets.items
         ≡ table axes.now.x axes.now.y axes.now.z low counts.0 counts.1 counts.2 numbers.now) }
 {

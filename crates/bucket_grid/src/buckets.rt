@@ -1,7 +1,7 @@
 //! Buckets that are being found.
 ghost use Rattle.std.specs.Prelude.{◌≡◌, ◌++◌, [], map, length, IfOk, OnOk, All};
-ghost use Rattle.bucket_grid.specs.Slots.{bucket_of, IsWithin};
-ghost use Rattle.bucket_grid.specs.Table.{if_bucket};
+ghost use Rattle.bucket_grid.specs.BucketSlots.{bucket_of, IsWithin};
+ghost use Rattle.bucket_grid.specs.BucketTable.{if_bucket};
 
 use crate::bucket_part::Part;
 use crate::bucket_table::Bucket;
@@ -28,7 +28,7 @@ pub struct Buckets {
 impl Model for Buckets {
     ghost use Rattle.std.specs.Prelude.{List, map, length, All};
     ghost use Rattle.bucket_grid.specs.declared.bucket_table.Bucket.{Bucket};
-    ghost use Rattle.bucket_grid.specs.Slots.{bucket_of, IsWithin};
+    ghost use Rattle.bucket_grid.specs.BucketSlots.{bucket_of, IsWithin};
 
     ghost Value = { List Bucket };
 

@@ -2,7 +2,7 @@
 ghost use Rattle.std.specs.Prelude.{◌≡◌, ◌+◌, ◌≤◌, ◌&&◌, ◌+ℤ◌, ◌*ℤ◌, unsigned_abs};
 ghost use Rattle.std.specs.Int.{saturate_signed, w32};
 ghost use Rattle.bim_model.specs.Points.{grid_limit};
-ghost use Rattle.bucket_grid.specs.declared.cell.TheConstants.{SIDE, GROWTH};
+ghost use Rattle.bucket_grid.specs.declared.cell.TheConstants.{GROWTH, FARTHEST_CELL};
 ghost use Rattle.bucket_grid.specs.Cells.{cell_of, first_cell, last_cell, first_low, start_of};
 
 use bim_model::{PER_MM, Point};
@@ -21,24 +21,28 @@ pub const SIDE: i32 = 4_000 * PER_MM;
 /// By how much a box is grown on each side, in grid numbers.
 pub const GROWTH: i32 = 1_000 * PER_MM;
 
-// How many cells zero is moved up, so that no coordinate with its growth is below zero.
-const CELLS_UP: i32 = 2_100;
+/// How far from zero the number of a cell that holds a box may lie on an axis.
+pub const FARTHEST_CELL: i32 = 2_100;
 
-// The cell of a coordinate. Numbers without a sign are divided in a third of the time.
+/// The most cells of an axis that hold boxes: from the farthest one below zero to the farthest above.
+pub const MOST_CELLS: u64 = 4_201;
+
+// The cell of a coordinate. Zero is moved up, so that no coordinate with its growth is below zero: numbers without a sign are divided in a
+// third of the time.
 #[inline(always)]
 fn cell_of(coordinate: i32) -> i32
     requires { unsigned_abs coordinate ≤ grid_limit + unsigned_abs GROWTH }
     ensures is { result ≡ cell_of coordinate }
-    ensures small { unsigned_abs result ≤ 2100 }
+    ensures small { unsigned_abs result ≤ unsigned_abs FARTHEST_CELL }
 {
-    ((coordinate + CELLS_UP * SIDE) as u32 / SIDE as u32) as i32 - CELLS_UP
+    ((coordinate + FARTHEST_CELL * SIDE) as u32 / SIDE as u32) as i32 - FARTHEST_CELL
 }
 
 /// The first cell of an axis that holds a low side.
 pub fn first_cell(low: i32) -> i32
     requires { unsigned_abs low ≤ grid_limit }
     ensures is { result ≡ first_cell low }
-    ensures small { unsigned_abs result ≤ 2100 }
+    ensures small { unsigned_abs result ≤ unsigned_abs FARTHEST_CELL }
 {
     cell_of(low - GROWTH)
 }
@@ -47,7 +51,7 @@ pub fn first_cell(low: i32) -> i32
 pub fn last_cell(high: i32) -> i32
     requires { unsigned_abs high ≤ grid_limit }
     ensures is { result ≡ last_cell high }
-    ensures small { unsigned_abs result ≤ 2100 }
+    ensures small { unsigned_abs result ≤ unsigned_abs FARTHEST_CELL }
 {
     cell_of(high + GROWTH)
 }

@@ -10,10 +10,10 @@ ghost use Rattle.bim_model.specs.declared.named_model.NamedModel.{NamedModel};
 ghost use Rattle.bucket_grid.specs.Axes.{span_on};
 ghost use Rattle.bucket_grid.specs.Cells.{holds, memberships, cell_count, members, IsOwner, IsBucket};
 ghost use Rattle.bim_model.specs.Keys.{subjects_of};
-ghost use Rattle.box_lanes.specs.Places.{box_at};
+ghost use Rattle.box_lanes.specs.BoxPlaces.{box_at};
 ghost use Rattle.bucket_grid.specs.Subjects.{AreBoxes, subject_at};
-ghost use Rattle.bucket_grid.specs.Places.{IsPlace, IsGridBox};
-ghost use Rattle.bucket_grid.specs.Table.{upto, table, IsTable};
+ghost use Rattle.bucket_grid.specs.ElementPlaces.{IsPlace, IsGridBox};
+ghost use Rattle.bucket_grid.specs.BucketTable.{upto, table, IsTable};
 ghost use Rattle.bucket_grid.specs.Grids.{HasMemberships};
 ghost use Rattle.bucket_grid.specs.Search.{IsAfter};
 ghost use Rattle.bucket_grid.specs.declared.cell.Cell.{Cell};
@@ -21,7 +21,7 @@ ghost use Rattle.bucket_grid.specs.declared.grid.GridError.TheVariants.{TooSprea
 
 use crate::axis_cells::{Axis, Range, cells_on, range_on, spans_on};
 use crate::bucket_table::{Axes, Bucket, table_of};
-use crate::cell::Cell;
+use crate::cell::{Cell, MOST_CELLS};
 use crate::owner::shared_cell;
 use crate::search::{place_by, place_of};
 use crate::subjects::{Gathered, Member, gather};
@@ -31,6 +31,9 @@ use std::marker::Model;
 
 /// The most elements of a version that may get a grid.
 pub const MOST_ELEMENTS: usize = 1_000_000;
+
+/// The most cells that hold a box: those of three axes.
+pub const MOST_CELLS_OF_BOX: u64 = MOST_CELLS * MOST_CELLS * MOST_CELLS;
 
 /// The most pairs of a cell and a member of it that a grid may have.
 pub const MOST_MEMBERSHIPS: u64 = 2_000_000;
@@ -98,7 +101,7 @@ fn memberships_of(boxes: &[Extent]) -> u64
 fn cells_of(extent: &Extent) -> u64
     requires { IsGridBox extent.now }
     ensures is { result ≡ cell_count extent.now }
-    ensures small { result ≤ 74140932601 }
+    ensures small { result ≤ MOST_CELLS_OF_BOX }
 {
     cells_on(Axis::X, extent) * cells_on(Axis::Y, extent) * cells_on(Axis::Z, extent)
 }

@@ -4,7 +4,7 @@ ghost use Rattle.bim_model.specs.Snapshots.{Version};
 ghost use Rattle.bim_model.specs.declared.geometry.Extent.{Extent};
 ghost use Rattle.bucket_grid.specs.Cells.{IsOwner};
 ghost use Rattle.bucket_grid.specs.Grids.{HasMemberships};
-ghost use Rattle.bucket_grid.specs.Laws.{CellsAreCounted, CellsHoldPoints, CloseBoxesHaveAnOwner, NearElementsHaveAnOwner};
+ghost use Rattle.bucket_grid.specs.GridLaws.{CellsAreCounted, CellsHoldPoints, CloseBoxesHaveAnOwner, NearElementsHaveAnOwner};
 ghost use Rattle.bucket_grid.specs.declared.cell.Cell.{Cell};
 
 /// A version has one number of memberships.

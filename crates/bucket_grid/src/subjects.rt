@@ -4,7 +4,7 @@ ghost use Rattle.std.specs.List.{AllZip};
 ghost use Rattle.bim_model.specs.declared.named_model.NamedModel.{NamedModel};
 ghost use Rattle.bim_model.specs.Keys.{Subject, subjects_of};
 ghost use Rattle.bucket_grid.specs.Subjects.{AreBoxes, IsBoxOf, of_model};
-ghost use Rattle.bucket_grid.specs.Places.{IsPlace, IsGridBox};
+ghost use Rattle.bucket_grid.specs.ElementPlaces.{IsPlace, IsGridBox};
 
 use crate::grid::MOST_ELEMENTS;
 use bim_model::{Extent, NamedModel};

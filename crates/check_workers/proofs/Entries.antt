@@ -3,7 +3,7 @@ use Rattle.std.proofs.Common.{◌≡◌, ℕ, ◌+◌, ◌≤◌, List, [], ◌�
 use Rattle.std.specs.Option.{option_or}
 use Rattle.std.proofs.lemmas.Bool.{eqb-true, eq-eqb, leb-true}
 use Rattle.std.proofs.lemmas.List.Elements.{All-nil, All-cons, All-head, All-tail}
-use Rattle.book_turn.specs.Numbers.{has}
+use Rattle.book_turn.specs.NumberLists.{has}
 use Rattle.book_turn.specs.Entries.{AllBefore, OwnUpTo, up_to, calls_by}
 
 -- ---- numbers

@@ -1,7 +1,7 @@
 -- What a set that is brought is answered, and what it adds.
 use Rattle.std.proofs.Common.{ℕ, ◌+◌, List, [], ◌∷◌, Bool, true, false, if◌then◌else◌, nat_le, Some, None, inl, inr, refl}
 use Rattle.bucket_grid.specs.declared.cell.Cell.{Cell}
-use Rattle.bucket_check.specs.Sets.{SetValue}
+use Rattle.bucket_check.specs.ClashSets.{SetValue}
 use Rattle.book_turn.specs.declared.object.Stamp.{Stamp}
 use Rattle.book_turn.specs.Entries.{listed}
 use Rattle.book_history.specs.declared.limits.Settings.{Settings}
@@ -15,7 +15,7 @@ use Rattle.book_history.specs.Projects.{ProjectState, newest}
 use Rattle.book_history.specs.Versions.{is_done, version_at}
 use Rattle.book_history.specs.History.{state_of}
 use Rattle.book_history.specs.Requests.{Accepted, refused_or, outcome_of, body_of, entry_by, added_by}
-use Rattle.check_workers.specs.Working.{AreDone, IsFinishTold}
+use Rattle.check_workers.specs.WorkerTurns.{AreDone, IsFinishTold}
 use Rattle.check_workers.specs.declared.work.Worked.TheVariants.{Done, Already, Dropped}
 
 -- ---- the three answers

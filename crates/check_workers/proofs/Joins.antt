@@ -1,13 +1,13 @@
 -- What a pass knows when others were joined into it, or when it has worked.
 use Rattle.std.proofs.Common.{◌≡◌, ◌⊎◌, ℕ, ◌+◌, ◌<◌, ◌≤◌, max, List, [], ◌∷◌, ◌++◌, true, All, inl, refl, sym, ◌∙◌, ap, subst, append-nil, arith}
 use Rattle.std.proofs.lemmas.List.Elements.{All-nil, All-cons, All-append}
-use Rattle.book_turn.specs.Numbers.{has}
+use Rattle.book_turn.specs.NumberLists.{has}
 use Rattle.book_turn.specs.Entries.{AllBefore, calls_by}
 use Rattle.book_turn.specs.Passes.{Joined}
 use Rattle.book_turn.proofs.Prefixes.{picked, calls_by-append}
 use Rattle.book_history.specs.declared.changes.Entry.{Entry}
 use Rattle.book_passes.specs.Lessons.{BookPass, caller_of, own_of, turn_of, stamp_of}
-use Rattle.check_workers.specs.Working.{IsDone, AreDone, AreMadeBy, Teaches}
+use Rattle.check_workers.specs.WorkerTurns.{IsDone, AreDone, AreMadeBy, Teaches}
 use Rattle.check_workers.specs.Joins.{Extends, ExtendsByWork, AreOfLanes, seen_at, pass_of, of_pass}
 use Rattle.check_workers.proofs.Fronts.{front_of, seen_twice}
 use Rattle.check_workers.proofs.Entries.{has_first, calls_within, calls_both, calls_none, up_to_before}

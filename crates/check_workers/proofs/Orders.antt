@@ -4,7 +4,7 @@ use Rattle.std.specs.List.{flat_map, sum_by}
 use Rattle.std.proofs.lemmas.List.{length-map}
 use Rattle.std.proofs.lemmas.List.Sums.{sum_by-cons}
 use Rattle.bucket_grid.specs.Cells.{IsBucket}
-use Rattle.bucket_check.specs.Sets.{SetValue}
+use Rattle.bucket_check.specs.ClashSets.{SetValue}
 use Rattle.book_turn.specs.declared.object.Stamp.{Stamp}
 use Rattle.book_history.specs.declared.limits.Settings.{Settings}
 use Rattle.book_history.specs.declared.changes.Entry.{Entry}
@@ -18,7 +18,7 @@ use Rattle.book_history.specs.Requests.{orders_in, orders_from, orders_of, all_o
 use Rattle.book_history.specs.Legal.{IsLegal}
 use Rattle.book_history.proofs.Given.{given_out}
 use Rattle.book_history.proofs.Legality.{given_later}
-use Rattle.check_workers.specs.Working.{IsFoundFor}
+use Rattle.check_workers.specs.WorkerTurns.{IsFoundFor}
 
 -- ---- as many orders as buckets are left
 

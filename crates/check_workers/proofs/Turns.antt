@@ -1,15 +1,15 @@
 -- What the turns of a worker teach its pass.
 use Rattle.std.proofs.Common.{◌≡◌, ◌⊎◌, ℕ, List, [], ◌∷◌, ◌++◌, Bool, true, false, if◌then◌else◌, inl, inr, refl, sym, ◌∙◌, ap, subst, append-nil}
-use Rattle.book_turn.specs.Numbers.{has}
+use Rattle.book_turn.specs.NumberLists.{has}
 use Rattle.book_turn.specs.declared.object.Stamp.{Stamp}
 use Rattle.book_turn.specs.Entries.{calls_by, listed}
 use Rattle.book_turn.specs.Passes.{KeepsNumbers}
 use Rattle.book_turn.specs.declared.call_fault.CallFault.{CallFault}
 use Rattle.book_turn.specs.declared.call_fault.CallFault.TheVariants.{Memory, PassSpent}
-use Rattle.book_turn.specs.Faults.{Failed}
+use Rattle.book_turn.specs.TurnFaults.{Failed}
 use Rattle.book_turn.proofs.Prefixes.{calls_by-append}
 use Rattle.bucket_grid.specs.Cells.{IsBucket}
-use Rattle.bucket_check.specs.Sets.{SetValue}
+use Rattle.bucket_check.specs.ClashSets.{SetValue}
 use Rattle.book_history.specs.declared.limits.Settings.{Settings}
 use Rattle.book_history.specs.declared.changes.Entry.{Entry}
 use Rattle.book_history.specs.declared.book_fault.BookFault.TheVariants.{NoWork}
@@ -24,7 +24,7 @@ use Rattle.book_history.specs.Requests.{Outcome, Refusal, Answer, Accepted, outc
 use Rattle.book_history.specs.Legal.{IsLegal}
 use Rattle.book_passes.specs.Lessons.{BookPass, CallerSeen, IsAnswered, TakesTurn, caller_of, own_of, stamp_of, stamp_in}
 use Rattle.book_passes.proofs.Learning.{takes_call, takes_idly, learns_turn, learns_trans, learns_none}
-use Rattle.check_workers.specs.Working.{IsDone, AreDone, AreMadeBy, Teaches, IsFoundFor, IsFinishTold, tells, WorksOne}
+use Rattle.check_workers.specs.WorkerTurns.{IsDone, AreDone, AreMadeBy, Teaches, IsFoundFor, IsFinishTold, tells, WorksOne}
 use Rattle.check_workers.specs.declared.work.Worked.{Worked}
 use Rattle.check_workers.specs.declared.work.Worked.TheVariants.{Done, Already, Dropped, Nothing}
 use Rattle.check_workers.proofs.Finishing.{finish_adds, finish_told}

@@ -3,7 +3,7 @@ use Rattle.std.proofs.Common.{◌≡◌, ℕ, zero, suc, ◌+◌, ◌<◌, List,
 use mathlib.Core.Logic.{dite}
 use native.Mathlib.Decide.{dec_le}
 use Rattle.std.proofs.lemmas.List.{map-append}
-use Rattle.book_turn.specs.Numbers.{has}
+use Rattle.book_turn.specs.NumberLists.{has}
 use Rattle.book_turn.specs.Entries.{calls_by}
 use Rattle.book_turn.specs.Passes.{TurnState, BelongsTo, new_pass, new_passes}
 use Rattle.book_turn.proofs.Ends.{new_passes_next}
@@ -11,7 +11,7 @@ use Rattle.book_history.specs.declared.limits.Settings.{Settings}
 use Rattle.book_history.specs.declared.changes.Entry.{Entry}
 use Rattle.book_passes.specs.Lessons.{BookPass, caller_of}
 use Rattle.check_workers.specs.declared.workers.Worker.{Worker}
-use Rattle.check_workers.specs.Working.{AreDone, Teaches}
+use Rattle.check_workers.specs.WorkerTurns.{AreDone, Teaches}
 use Rattle.check_workers.specs.Joins.{IsNewWorker, WorkerOver, HasEach, pass_of}
 use Rattle.check_workers.proofs.Entries.{has_first, has_second, has_one}
 

@@ -3,13 +3,13 @@ use Rattle.std.specs.Prelude.{◌≡◌, ◌≢◌, ◌≤◌, ◌<◌, ◌⊎�
 use Rattle.std.specs.Option.{option_or}
 use Rattle.book_turn.specs.declared.call_fault.CallFault.{CallFault}
 use Rattle.book_turn.specs.declared.call_fault.CallFault.TheVariants.{Memory, PassSpent}
-use Rattle.book_turn.specs.Numbers.{has}
+use Rattle.book_turn.specs.NumberLists.{has}
 use Rattle.book_turn.specs.Entries.{AllBefore, calls_by, up_to}
 use Rattle.book_turn.specs.Passes.{TurnState, IsSingle}
 use Rattle.book_history.specs.declared.limits.Settings.{Settings}
 use Rattle.book_history.specs.declared.changes.Entry.{Entry}
 use Rattle.book_passes.specs.Lessons.{BookPass, caller_of, own_of, turn_of}
-use Rattle.check_workers.specs.Working.{IsDone, AreDone}
+use Rattle.check_workers.specs.WorkerTurns.{IsDone, AreDone}
 use Rattle.check_workers.specs.declared.workers.Lack.{Lack}
 
 -- nothing was lacked yet

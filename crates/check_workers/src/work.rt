@@ -4,7 +4,7 @@ ghost use Rattle.bucket_grid.specs.Cells.{IsBucket};
 ghost use Rattle.book_turn.specs.Passes.{BelongsTo};
 ghost use Rattle.book_history.specs.History.{left_all};
 ghost use Rattle.book_passes.specs.Lessons.{caller_of};
-ghost use Rattle.check_workers.specs.Working.{IsFoundFor, IsFinishTold, tells, Teaches, WorksOne};
+ghost use Rattle.check_workers.specs.WorkerTurns.{IsFoundFor, IsFinishTold, tells, Teaches, WorksOne};
 
 use bim_model::{Shared, Steps};
 use bim_net::Gate;

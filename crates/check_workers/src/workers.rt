@@ -6,7 +6,7 @@ ghost use Rattle.book_turn.specs.Entries.{AllBefore};
 ghost use Rattle.book_turn.specs.Passes.{BelongsTo, new_passes};
 ghost use Rattle.book_history.specs.History.{left_all};
 ghost use Rattle.book_passes.specs.Lessons.{caller_of, turn_of};
-ghost use Rattle.check_workers.specs.Working.{Teaches};
+ghost use Rattle.check_workers.specs.WorkerTurns.{Teaches};
 ghost use Rattle.check_workers.specs.Joins.{IsNewWorker, WorkerOver, HasEach, ExtendsByWork, nothing_lacked, lacked_by, first_spent};
 
 use crate::work::work_loop;

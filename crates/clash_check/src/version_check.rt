@@ -1,9 +1,9 @@
 //! Every bucket of a version is checked.
 ghost use Rattle.std.specs.Prelude.{◌≡◌, ◌<◌, ◌≤◌, ◌-◌, ◌^◌, length, min, IfOk, IfErr};
 ghost use Rattle.bim_model.specs.Keys.{subjects_of};
-ghost use Rattle.bucket_check.specs.Sets.{IsSetOf};
+ghost use Rattle.bucket_check.specs.ClashSets.{IsSetOf};
 ghost use Rattle.clash_publish.specs.Merged.{AreSetsOf};
-ghost use Rattle.clash_check.specs.Versions.{element_count, IsChecked, IsVersionCause, of_grid};
+ghost use Rattle.clash_check.specs.VersionChecks.{element_count, IsChecked, IsVersionCause, of_grid};
 
 use crate::version_fault::{MOST_VERSION_ELEMENTS, VersionError, VersionFault};
 use bim_model::{NamedModel, Shared, Snapshot, Steps};

@@ -9,14 +9,14 @@ use Rattle.bucket_grid.specs.declared.cell.Cell.{Cell}
 use Rattle.bucket_grid.specs.declared.bucket_table.Bucket.{Bucket}
 use Rattle.bucket_grid.specs.Cells.{cell_cmp, members, IsBucket}
 use Rattle.bucket_grid.specs.Grids.{GridValue}
-use Rattle.bucket_grid.specs.Table.{IsTable}
+use Rattle.bucket_grid.specs.BucketTable.{IsTable}
 use Rattle.bucket_grid.specs.Subjects.{subject_at}
 use Rattle.bucket_grid.proofs.Zips.{zip_at, zip_length, zip_push}
-use Rattle.bucket_check.specs.Sets.{SetValue, IsSame, subjects_at, IsUnmoved, IsSetOf}
+use Rattle.bucket_check.specs.ClashSets.{SetValue, IsSame, subjects_at, IsUnmoved, IsSetOf}
 use Rattle.clash_delta.specs.declared.slot.Slot.{Slot}
-use Rattle.clash_delta.specs.Numbers.{subjects}
-use Rattle.clash_delta.specs.Slots.{cells_of, bucket_cells, IsDone, IsOf}
-use Rattle.clash_delta.specs.Places.{Rise, IsPlaceOf}
+use Rattle.clash_delta.specs.ElementNumbers.{subjects}
+use Rattle.clash_delta.specs.BucketProgress.{cells_of, bucket_cells, IsDone, IsOf}
+use Rattle.clash_delta.specs.BucketPlaces.{Rise, IsPlaceOf}
 use Rattle.clash_delta.specs.Carried.{IsCarried, IsMoved, IsCarriedSet, IsCarriedTo, IsUnmovedAt, IsReachedCell}
 use Rattle.clash_delta.proofs.Cells.{not_less, lesser}
 use Rattle.clash_delta.proofs.Filled.{rise_by}

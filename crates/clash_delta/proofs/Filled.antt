@@ -10,11 +10,11 @@ use Rattle.bucket_grid.specs.declared.bucket_table.Bucket.{Bucket}
 use Rattle.bucket_grid.specs.Cells.{cell_cmp}
 use Rattle.bucket_grid.specs.Grids.{GridValue}
 use Rattle.bucket_check.specs.Clashes.{is_cell}
-use Rattle.bucket_check.specs.Sets.{SetValue, own_places, IsSetOf}
+use Rattle.bucket_check.specs.ClashSets.{SetValue, own_places, IsSetOf}
 use Rattle.bucket_check.proofs.Merged.{same_cell, one_cell}
 use Rattle.clash_delta.specs.declared.slot.Slot.{Slot}
-use Rattle.clash_delta.specs.Slots.{cells_of, filled, bucket_cells, IsOf}
-use Rattle.clash_delta.specs.Places.{Rise, IsPlaceOf}
+use Rattle.clash_delta.specs.BucketProgress.{cells_of, filled, bucket_cells, IsOf}
+use Rattle.clash_delta.specs.BucketPlaces.{Rise, IsPlaceOf}
 use Rattle.clash_delta.proofs.Undone.{nothing, one_place}
 
 abbrev slot : Cell → Option SetValue → Slot

@@ -7,10 +7,10 @@ use Rattle.bucket_grid.specs.declared.cell.Cell.{Cell}
 use Rattle.bucket_grid.specs.declared.bucket_table.Bucket.{Bucket}
 use Rattle.bucket_grid.specs.Cells.{cell_cmp}
 use Rattle.bucket_grid.specs.Grids.{GridValue}
-use Rattle.bucket_check.specs.Sets.{SetValue, IsSetOf}
+use Rattle.bucket_check.specs.ClashSets.{SetValue, IsSetOf}
 use Rattle.clash_delta.specs.declared.slot.Slot.{Slot}
-use Rattle.clash_delta.specs.Slots.{cells_of, bucket_cells, undone_cells, IsDone, IsOf}
-use Rattle.clash_delta.specs.Places.{Rise}
+use Rattle.clash_delta.specs.BucketProgress.{cells_of, bucket_cells, undone_cells, IsDone, IsOf}
+use Rattle.clash_delta.specs.BucketPlaces.{Rise}
 use Rattle.clash_delta.proofs.Undone.{nothing, fact}
 use Rattle.clash_delta.proofs.Filled.{rise_by}
 

@@ -7,9 +7,9 @@ use Rattle.std.proofs.lemmas.List.Elements.{All-head, All-tail, All-nil, All-con
 use Rattle.bucket_grid.specs.declared.cell.Cell.{Cell}
 use Rattle.bucket_grid.specs.declared.bucket_table.Bucket.{Bucket}
 use Rattle.bucket_grid.specs.Grids.{GridValue}
-use Rattle.bucket_check.specs.Sets.{SetValue, IsSetOf}
+use Rattle.bucket_check.specs.ClashSets.{SetValue, IsSetOf}
 use Rattle.clash_delta.specs.declared.slot.Slot.{Slot}
-use Rattle.clash_delta.specs.Slots.{cells_of, undone_cells, undone_slots, IsOf}
+use Rattle.clash_delta.specs.BucketProgress.{cells_of, undone_cells, undone_slots, IsOf}
 use Rattle.clash_delta.proofs.Undone.{nothing}
 
 abbrev set_of : Slot → Option SetValue

@@ -6,7 +6,7 @@ use Rattle.std.proofs.lemmas.List.{length-map, get_or-map, get_or-append_right, 
 use Rattle.std.proofs.lemmas.List.Elements.{All-nil, All-cons}
 use Rattle.std.proofs.lemmas.List.Edits.{remove-append_right}
 use Rattle.std.proofs.lemmas.List.Kept.{AllPairs-cons}
-use Rattle.box_lanes.specs.Places.{places_from}
+use Rattle.box_lanes.specs.BoxPlaces.{places_from}
 use Rattle.box_lanes.proofs.Places.{places-cons, places-append}
 
 pub pairs_nil : {X : Type 0} (R : X → X → Type 0) → AllPairs R []

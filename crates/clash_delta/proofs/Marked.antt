@@ -5,10 +5,10 @@ use Rattle.std.specs.List.Sorted.{IsSearchInRange, IsBinarySearchResult}
 use Rattle.std.specs.Ordering.{nat_cmp}
 use Rattle.std.proofs.lemmas.List.{get_or_default}
 use Rattle.bucket_grid.specs.declared.cell.Cell.{Cell}
-use Rattle.bucket_check.specs.Sets.{SetValue}
+use Rattle.bucket_check.specs.ClashSets.{SetValue}
 use Rattle.clash_delta.specs.declared.slot.Slot.{Slot}
-use Rattle.clash_delta.specs.Slots.{undone_cells, filled, IsBucketOf, IsDone}
-use Rattle.clash_delta.specs.Places.{Rise, IsPlaceOf, IsProgress, undone_places}
+use Rattle.clash_delta.specs.BucketProgress.{undone_cells, filled, IsBucketOf, IsDone}
+use Rattle.clash_delta.specs.BucketPlaces.{Rise, IsPlaceOf, IsProgress, undone_places}
 use Rattle.clash_delta.proofs.Listed.{falls, without, stands}
 use Rattle.clash_delta.proofs.Searched.{place_found, place_missing}
 use Rattle.clash_delta.proofs.Undone.{undone, nothing, undone_count, undone_at, done_at, not_done_at, bucket_at, one_place, fact}

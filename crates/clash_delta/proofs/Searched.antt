@@ -13,8 +13,8 @@ use Rattle.bucket_grid.specs.declared.cell.Cell.{Cell}
 use Rattle.bucket_grid.specs.Cells.{cell_cmp}
 use Rattle.bucket_grid.proofs.Searching.{equal_cells}
 use Rattle.clash_delta.specs.declared.slot.Slot.{Slot}
-use Rattle.clash_delta.specs.Slots.{IsBucketOf}
-use Rattle.clash_delta.specs.Places.{Rise, IsPlaceOf}
+use Rattle.clash_delta.specs.BucketProgress.{IsBucketOf}
+use Rattle.clash_delta.specs.BucketPlaces.{Rise, IsPlaceOf}
 use Rattle.clash_delta.proofs.Cells.{cells_total, itself}
 
 different : Less ≡ Equal → ⊥

@@ -6,13 +6,13 @@ use Rattle.std.proofs.lemmas.Bool.{cases_order}
 use Rattle.std.proofs.lemmas.List.{length-map, get_or-map, length-reverse, get_or-reverse, get_or_default}
 use Rattle.std.proofs.lemmas.List.Elements.{filter_passes, All-contains}
 use Rattle.std.proofs.lemmas.Option.{slice_get-get_or, slice_get_past}
-use Rattle.box_lanes.specs.Places.{places_from}
+use Rattle.box_lanes.specs.BoxPlaces.{places_from}
 use Rattle.bucket_grid.specs.declared.cell.Cell.{Cell}
 use Rattle.bucket_grid.specs.Cells.{cell_cmp}
-use Rattle.bucket_check.specs.Sets.{SetValue}
+use Rattle.bucket_check.specs.ClashSets.{SetValue}
 use Rattle.clash_delta.specs.declared.slot.Slot.{Slot}
-use Rattle.clash_delta.specs.Slots.{cells_of, undone_slots, undone_cells, IsBucketOf, IsDone}
-use Rattle.clash_delta.specs.Places.{Rise, IsPlaceOf, undone_places}
+use Rattle.clash_delta.specs.BucketProgress.{cells_of, undone_slots, undone_cells, IsBucketOf, IsDone}
+use Rattle.clash_delta.specs.BucketPlaces.{Rise, IsPlaceOf, undone_places}
 use Rattle.clash_delta.proofs.Cells.{not_less}
 use Rattle.clash_delta.proofs.Listed.{inside, mapped}
 

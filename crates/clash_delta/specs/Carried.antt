@@ -6,9 +6,9 @@ use Rattle.bucket_grid.specs.declared.cell.Cell.{Cell}
 use Rattle.bucket_grid.specs.declared.bucket_table.Bucket.{Bucket}
 use Rattle.bucket_grid.specs.Cells.{cell_cmp, members, IsBucket}
 use Rattle.bucket_grid.specs.Grids.{GridValue}
-use Rattle.bucket_check.specs.Sets.{SetValue, IsSame, subjects_at, IsUnmoved, IsSetOf}
+use Rattle.bucket_check.specs.ClashSets.{SetValue, IsSame, subjects_at, IsUnmoved, IsSetOf}
 use Rattle.clash_delta.specs.declared.slot.Slot.{Slot}
-use Rattle.clash_delta.specs.Slots.{IsDone}
+use Rattle.clash_delta.specs.BucketProgress.{IsDone}
 
 -- the cell was a bucket of the version before and done there, its members have the same keys, classes, storeys and
 -- triangles in both, and the rules are the same

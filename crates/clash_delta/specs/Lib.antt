@@ -1,5 +1,5 @@
 pub mod Same
-pub mod Slots
-pub mod Places
+pub mod BucketProgress
+pub mod BucketPlaces
 pub mod Carried
-pub mod Numbers
+pub mod ElementNumbers

@@ -5,9 +5,9 @@ ghost use Rattle.bucket_grid.specs.declared.cell.Cell.{Cell};
 ghost use Rattle.bucket_grid.specs.declared.bucket_table.Bucket.{Bucket};
 ghost use Rattle.bucket_grid.specs.Cells.{cell_cmp, members};
 ghost use Rattle.bucket_check.specs.declared.bucket_work.BucketWork.{BucketWork};
-ghost use Rattle.bucket_check.specs.Sets.{IsUnmoved, IsSetOf};
-ghost use Rattle.clash_delta.specs.Numbers.{subjects, AreNumbersBefore, AreFrom};
-ghost use Rattle.clash_delta.specs.Slots.{IsDone, IsOf};
+ghost use Rattle.bucket_check.specs.ClashSets.{IsUnmoved, IsSetOf};
+ghost use Rattle.clash_delta.specs.ElementNumbers.{subjects, AreNumbersBefore, AreFrom};
+ghost use Rattle.clash_delta.specs.BucketProgress.{IsDone, IsOf};
 ghost use Rattle.clash_delta.specs.Carried.{IsCarried, IsMoved, IsCarriedTo, IsUnmovedAt, IsReachedCell};
 ghost use Rattle.clash_delta.specs.declared.slot.Slot.{Slot};
 

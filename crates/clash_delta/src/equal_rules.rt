@@ -40,7 +40,9 @@ fn same_kind(a: RuleKind, b: RuleKind) -> bool
     ensures { IsTrue result ↔ (a ≡ b) }
 {
     match (a, b) {
-        (RuleKind::Clash { distance: a }, RuleKind::Clash { distance: b }) => a == b,
+        (RuleKind::Clash { distance: a }, RuleKind::Clash { distance: b }) => {
+            a.millimetres() == b.millimetres()
+        }
         (RuleKind::Ignore, RuleKind::Ignore) => true,
         _ => false,
     }

@@ -2,8 +2,8 @@
 ghost use Rattle.std.specs.Prelude.{◌≡◌, ◌↔◌, ◌<◌, ◌≤◌, length, slice_index_or, IsTrue, IfOk};
 ghost use Rattle.bim_model.specs.declared.named_model.NamedModel.{NamedModel};
 ghost use Rattle.bim_model.specs.Keys.{key_of, key_cmp};
-ghost use Rattle.bucket_check.specs.Sets.{IsSame};
-ghost use Rattle.clash_delta.specs.Numbers.{subjects, subject_of, AllBelow, IsReached, IsNumberBefore, AreNumbersBefore};
+ghost use Rattle.bucket_check.specs.ClashSets.{IsSame};
+ghost use Rattle.clash_delta.specs.ElementNumbers.{subjects, subject_of, AllBelow, IsReached, IsNumberBefore, AreNumbersBefore};
 
 use crate::same::is_like;
 use bim_model::NamedModel;

@@ -5,9 +5,9 @@ ghost use Rattle.std.specs.List.{AllZip};
 ghost use Rattle.bucket_grid.specs.Grids.{GridValue};
 ghost use Rattle.bucket_grid.specs.declared.cell.Cell.{Cell};
 ghost use Rattle.bucket_grid.specs.declared.bucket_table.Bucket.{Bucket};
-ghost use Rattle.bucket_check.specs.Sets.{SetValue, IsSetOf};
-ghost use Rattle.clash_delta.specs.Slots.{undone_cells, filled, IsBucketOf, IsDone, IsOf};
-ghost use Rattle.clash_delta.specs.Places.{Rise, IsPlaceOf, undone_places};
+ghost use Rattle.bucket_check.specs.ClashSets.{SetValue, IsSetOf};
+ghost use Rattle.clash_delta.specs.BucketProgress.{undone_cells, filled, IsBucketOf, IsDone, IsOf};
+ghost use Rattle.clash_delta.specs.BucketPlaces.{Rise, IsPlaceOf, undone_places};
 ghost use Rattle.clash_delta.specs.declared.slot.Slot.{Slot};
 ghost use Rattle.clash_delta.specs.declared.progress.PutAnswer.TheVariants.{Taken, AlreadyDone};
 
@@ -40,7 +40,7 @@ pub struct Progress {
 impl Model for Progress {
     ghost use Rattle.std.specs.Prelude.{List};
     ghost use Rattle.clash_delta.specs.declared.slot.Slot.{Slot};
-    ghost use Rattle.clash_delta.specs.Places.{IsProgress};
+    ghost use Rattle.clash_delta.specs.BucketPlaces.{IsProgress};
 
     ghost Value = { List Slot };
 

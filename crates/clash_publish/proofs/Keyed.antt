@@ -20,7 +20,7 @@ use Rattle.bucket_check.specs.declared.pair.SetPair.{SetPair}
 use Rattle.bucket_check.specs.Clashes.{clashes, IsBefore}
 use Rattle.bucket_check.proofs.Lists.{all_have}
 use Rattle.clash_publish.specs.Listed.{element_of, ClashBy, IsClash, by_keys, IsKeyClash, IsKeyBefore}
-use Rattle.clash_publish.specs.Laws.{AreKeyClashes}
+use Rattle.clash_publish.specs.ClashListLaws.{AreKeyClashes}
 use Rattle.clash_publish.proofs.Reasons.{listed}
 
 key_order : IsTotalOrder key_cmp

@@ -5,19 +5,21 @@ use Rattle.bim_model.specs.declared.element.Element.{Element}
 use Rattle.bim_model.specs.declared.rules.Rule.{Rule}
 use Rattle.bim_model.specs.declared.rules.RuleKind.{RuleKind}
 use Rattle.bim_model.specs.declared.rules.RuleKind.TheVariants.{Clash, Ignore}
+use Rattle.bim_model.specs.declared.rules.Meeting.{Meeting}
+use Rattle.bim_model.specs.declared.rules.Meeting.TheVariants.{Within}
 use Rattle.bim_model.specs.declared.rules.Found.{Found}
+use Rattle.bim_model.specs.Distances.{in_grid_numbers}
 use Rattle.bim_model.specs.Rules.{fits, decided, rule_from, distance_of}
 use Rattle.bim_model.specs.Snapshots.{Version}
 use Rattle.bim_model.specs.Keys.{Subject, subjects_of}
-use Rattle.clearance.specs.Decided.{is_near}
 use Rattle.clearance.proofs.Decided.{elements_decided}
 use Rattle.bucket_check.specs.declared.pair.SetPair.{SetPair}
-use Rattle.bucket_check.specs.Clashes.{in_grid_numbers, rule_between, clash_by, clash_of, clashes, IsBefore}
+use Rattle.bucket_check.specs.Clashes.{meet_by, rule_between, clash_by, clash_of, clashes, IsBefore}
 use Rattle.bucket_check.proofs.Lists.{Lists, lists_one}
 use Rattle.bucket_check.proofs.Pairs.{once}
 use Rattle.bucket_check.proofs.Owned.{IsClash as IsFound, why, clashes_list}
-use Rattle.clash_publish.specs.Listed.{element_of, distance_at, ClashBy, IsClash}
-use Rattle.clash_publish.specs.Laws.{ClashesAreListed}
+use Rattle.clash_publish.specs.Listed.{element_of, distance_at, Meet, ClashBy, IsClash}
+use Rattle.clash_publish.specs.ClashListLaws.{ClashesAreListed}
 
 -- a list of all that has a property is one of all that has another with the same members
 lists_same : {X : Type 0} (R : X → X → Type 0) (P Q : X → Type 0) (xs : List X) → ((x : X) → P x → Q x) → ((x : X) → Q x → P x) → Lists R P xs → Lists R Q xs
@@ -66,6 +68,13 @@ distance_found rules s t f e =
     let here : at.place ≡ f.rule = omega (arith, at.number) in
     at.distance ∙ ap (distance_at rules) here
 
+-- the test of a meeting decides it
+meets : (m : Meeting) (d : ℕ) (x y : Element) → meet_by m d x y ≡ true → Meet m d x y
+meets Within d x y e = (elements_decided x y (in_grid_numbers d)).0 e
+
+met : (m : Meeting) (d : ℕ) (x y : Element) → Meet m d x y → meet_by m d x y ≡ true
+met Within d x y h = (elements_decided x y (in_grid_numbers d)).1 h
+
 -- why two elements clash
 pub clash_why : (rules : List Rule) (s t : Subject) (r : ℕ) → clash_of rules s t ≡ Some r → ClashBy rules s t r
 clash_why rules s t r e =
@@ -75,17 +84,17 @@ clash_why rules s t r e =
       decides = w.is;
       number_is = w.rule;
       distance_is = distance_found rules s t w.found w.is ∙ ap (distance_at rules) w.rule;
-      near = (elements_decided s.element t.element (in_grid_numbers w.found.distance)).0 w.near;
+      meet = meets w.found.meeting w.found.distance s.element t.element w.met;
     }
 
-near_gives : (b : Bool) (n : ℕ) → b ≡ true → cond b (Some n) None ≡ Some n
-near_gives true n e = refl
-near_gives false n e = cc
+met_gives : (b : Bool) (n : ℕ) → b ≡ true → cond b (Some n) None ≡ Some n
+met_gives true n e = refl
+met_gives false n e = cc
 
 pub clash_is : (rules : List Rule) (s t : Subject) (r : ℕ) → ClashBy rules s t r → clash_of rules s t ≡ Some r
 clash_is rules s t r c =
     ap (λ o. clash_by o s.element t.element) c.decides
-    ∙ near_gives (is_near s.element t.element (in_grid_numbers c.found.distance)) c.found.rule ((elements_decided s.element t.element (in_grid_numbers c.found.distance)).1 c.near)
+    ∙ met_gives (meet_by c.found.meeting c.found.distance s.element t.element) c.found.rule (met c.found.meeting c.found.distance s.element t.element c.meet)
     ∙ ap (λ n. Some n) c.number_is
 
 pub is_clash : (version : Version) (p : SetPair) → IsFound version.rules (subjects_of version.models) p → IsClash version p

@@ -1,4 +1,4 @@
 pub mod Listed
 pub mod Merged
-pub mod Laws
+pub mod ClashListLaws
 pub mod Shelves

@@ -3,16 +3,20 @@
 -- An element's number is its place in the list of all elements of the version by rising key.
 use Rattle.std.specs.Prelude.{◌≡◌, ℕ, ◌<◌, zero, suc, List, [], ◌∷◌, length, IsTrue, Contains, Some}
 use Rattle.std.specs.Ordering.{is_lt}
+use Rattle.bim_model.specs.declared.element.Element.{Element}
 use Rattle.bim_model.specs.declared.keys.Pair.{Pair}
 use Rattle.bim_model.specs.declared.rules.Rule.{Rule}
+use Rattle.bim_model.specs.declared.rules.Meeting.{Meeting}
+use Rattle.bim_model.specs.declared.rules.Meeting.TheVariants.{Within}
 use Rattle.bim_model.specs.declared.rules.Found.{Found}
+use Rattle.bim_model.specs.Distances.{in_grid_numbers}
 use Rattle.bim_model.specs.Rules.{distance_of}
 use Rattle.bim_model.specs.Snapshots.{Version}
 use Rattle.bim_model.specs.Keys.{Subject, subjects_of, key_of, pair_cmp, IsBelow}
 use Rattle.clearance.specs.Near.{ElementsNear}
 use Rattle.bucket_grid.specs.Subjects.{subject_at}
 use Rattle.bucket_check.specs.declared.pair.SetPair.{SetPair}
-use Rattle.bucket_check.specs.Clashes.{in_grid_numbers, rule_between}
+use Rattle.bucket_check.specs.Clashes.{rule_between}
 
 -- the element of a number
 abbrev pub element_of : Version → ℕ → Subject
@@ -24,13 +28,17 @@ distance_at [] number = 0
 distance_at (rule ∷ rules) zero = distance_of rule.kind
 distance_at (rule ∷ rules) (suc number) = distance_at rules number
 
--- the rule of that number decides for two elements, and they come within its distance of each other
+-- two elements meet in that way, at a distance in millimetres: their surfaces come within it
+abbrev pub Meet : Meeting → ℕ → Element → Element → Type 0
+Meet Within distance a b = ElementsNear a b (in_grid_numbers distance)
+
+-- the rule of that number decides for two elements, and they meet as it asks
 pub record ClashBy (rules : List Rule) (s t : Subject) (number : ℕ) : Type 0 where
   pub found : Found
   pub decides : rule_between rules s t ≡ Some found
   pub number_is : found.rule ≡ number
   pub distance_is : found.distance ≡ distance_at rules number
-  pub near : ElementsNear s.element t.element (in_grid_numbers found.distance)
+  pub meet : Meet found.meeting found.distance s.element t.element
 
 -- two elements of a version by their numbers, the lower first, and the rule by which they clash
 pub record IsClash (version : Version) (p : SetPair) : Type 0 where

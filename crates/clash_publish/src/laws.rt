@@ -1,5 +1,5 @@
 //! What follows of the definitions alone.
-ghost use Rattle.clash_publish.specs.Laws.{ClashesAreListed, ClashesAreListedByKeys};
+ghost use Rattle.clash_publish.specs.ClashListLaws.{ClashesAreListed, ClashesAreListedByKeys};
 
 /// The list of all clashes of a version rises strictly and has exactly its clashes, and there is one such list.
 pub fn clashes_are_listed()

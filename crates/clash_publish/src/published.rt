@@ -8,7 +8,7 @@ ghost use Rattle.clash_publish.specs.Listed.{IsClash, element_of, distance_at};
 ghost use Rattle.clash_publish.specs.Merged.{AreSetsOf};
 
 use crate::merge::merged;
-use bim_model::{Element, RuleKind, Shared, Snapshot};
+use bim_model::{Distance, Element, RuleKind, Shared, Snapshot};
 use bucket_check::{BucketSet, SetPair};
 use bucket_grid::Grid;
 use std::alloc::{AllocError, Global};
@@ -119,17 +119,17 @@ impl Published {
         grid.models()[place.model].name.as_str()
     }
 
-    /// The distance of a rule in millimetres, 0 where it has none or isn't there.
-    pub fn distance(&self, rule: u32) -> u32
+    /// The distance of a rule, 0 where it has none or isn't there.
+    pub fn distance(&self, rule: u32) -> Distance
         ensures { result ≡ distance_at self.now.rules rule }
     {
         let rules = self.grid.get().rules().list();
         if rule as usize >= rules.len() {
-            return 0;
+            return Distance::new(0);
         }
         match rules[rule as usize].kind {
             RuleKind::Clash { distance } => distance,
-            RuleKind::Ignore => 0,
+            RuleKind::Ignore => Distance::new(0),
         }
     }
 }

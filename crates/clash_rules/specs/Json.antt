@@ -196,13 +196,6 @@ abbrev pub IsReadAs : {A : Type 0} → Result A RuleError → Result A RuleFault
 IsReadAs (Ok read) meant = meant ≡ Ok read
 IsReadAs (Err error) meant = IsFault error meant
 
--- a distance that is kept is at most 1,000
-abbrev pub IsSpelled : Spelled → Type 0
-IsSpelled Absent = ⊤
-IsSpelled (Within distance) = distance ≤ MOST_DISTANCE
-IsSpelled Beyond = ⊤
-IsSpelled Bad = ⊤
-
 -- a level that is kept has at most 256 bytes
 abbrev pub IsLevel : Option (List ℕ) → Type 0
 IsLevel level = IfSome level (λ text. length text ≤ MOST_LEVEL)

@@ -5,11 +5,12 @@ ghost use Rattle.serde_json.specs.Find.{as_number, as_integer};
 ghost use Rattle.serde_json.specs.View.{view};
 ghost use Rattle.bim_model.specs.Rules as rules;
 ghost use Rattle.bim_model.specs.Rules.{is_class_char, IsClassTest, IsRule};
-ghost use Rattle.clash_rules.specs.Json.{is_class_name, if_class, class_in, storey_named, storey_in, models_named, models_in, word_named, word_in, if_level, level_in, tests_in, if_whole, distance_in, kind_of, joined, IsSpelled, IsLevel};
+ghost use Rattle.clash_rules.specs.Json.{is_class_name, if_class, class_in, storey_named, storey_in, models_named, models_in, word_named, word_in, if_level, level_in, tests_in, if_whole, distance_in, kind_of, joined, IsLevel};
 
 use crate::rule_fault::RuleFault;
 use bim_model::{
-    ClassTest, MOST_CLASS, MOST_DISTANCE, MOST_LEVEL, ModelTest, Rule, RuleKind, StoreyTest, Text,
+    ClassTest, Distance, MOST_CLASS, MOST_DISTANCE, MOST_LEVEL, ModelTest, Rule, RuleKind,
+    StoreyTest, Text,
 };
 use serde_json::Value;
 use std::alloc::{AllocError, Global};
@@ -27,7 +28,7 @@ pub enum Spelled {
     /// Nothing, or null.
     Absent,
     /// A whole number from 0 to 1,000.
-    Within(u32),
+    Within(Distance),
     /// Another whole number.
     Beyond,
     /// Something else.
@@ -240,14 +241,13 @@ pub fn level_in(alloc: Global, rule: &Value) -> Result<Option<Option<Text>>, All
 // What a value spells as a distance.
 #[tactic(auto, unfolding(crate::specs::Json::if_whole))]
 fn distance_of(value: &Value) -> Spelled
-    ensures is { result ≡ if_whole (option_and_then as_integer (as_number (view value.now))) }
-    ensures good { IsSpelled result }
+    ensures { result ≡ if_whole (option_and_then as_integer (as_number (view value.now))) }
 {
     match value.as_number() {
         Some(number) => match number.as_i128() {
             Some(whole) => {
                 if 0 <= whole && whole <= MOST_DISTANCE as i128 {
-                    Spelled::Within(whole as u32)
+                    Spelled::Within(Distance::new(whole as u32))
                 } else {
                     Spelled::Beyond
                 }
@@ -261,8 +261,7 @@ fn distance_of(value: &Value) -> Spelled
 /// What stands as the distance.
 #[tactic(auto, unfolding(crate::specs::Json::distance_in))]
 pub fn distance_in(rule: &Value) -> Spelled
-    ensures is { result ≡ distance_in (view rule.now) }
-    ensures good { IsSpelled result }
+    ensures { result ≡ distance_in (view rule.now) }
 {
     match rule.get("distance") {
         Some(value) => {
@@ -277,7 +276,6 @@ pub fn distance_in(rule: &Value) -> Spelled
 
 // What a rule of that number says, by its word and its distance.
 fn kind_of(index: u64, word: Word, distance: Spelled) -> Result<RuleKind, RuleFault>
-    requires { IsSpelled distance }
     ensures is { result ≡ kind_of index word distance }
     ensures near { IfOk result (λ kind. rules.distance_of kind ≤ MOST_DISTANCE) }
 {
@@ -308,7 +306,6 @@ pub fn joined(
     requires a { IfSome a IsClassTest }
     requires b { IfSome b IsClassTest }
     requires level { IfSome level IsLevel }
-    requires distance { IsSpelled distance }
     ensures is { result ≡ joined index a b level tests distance }
     ensures rule { IfOk result IsRule }
 {

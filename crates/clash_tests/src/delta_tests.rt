@@ -1,7 +1,7 @@
 //! Versions of few elements: what is done from the start, and what of it is carried to the next version.
 ghost use Rattle.std.specs.Prelude.{◌≡◌, ◌<◌, OnOk, IfOk};
 ghost use Rattle.bim_model.specs.Snapshots.{Version};
-ghost use Rattle.clash_delta.specs.Slots.{IsOf};
+ghost use Rattle.clash_delta.specs.BucketProgress.{IsOf};
 
 use crate::sample_pipes::{grid_of, named, pipe, rules};
 use bim_model::{NamedModel, Shared, Snapshot, Steps};

@@ -139,7 +139,11 @@ fn pages_and_keys_are_told(rt: HostRuntime) -> Result<(), Fail> {
     assert_eq!(rt; set.model_name(third.b), "b");
     assert_eq!(rt; set.element(third.a).guid.chars, *b"0000000000000000000001");
     assert_eq!(rt; set.element(third.b).guid.chars, *b"0000000000000000000000");
-    assert_eq!(rt; (set.distance(third.rule), set.distance(1)), (50, 0));
+    let distances = (set.distance(third.rule), set.distance(1));
+    assert_eq!(rt;
+        (distances.0.millimetres(), distances.1.millimetres()),
+        (50, 0)
+    );
     assert_eq!(rt; set.snapshot().models().len(), 2);
     Ok(())
 }

@@ -57,6 +57,6 @@ fn rules_of_elements_are_found(rt: HostRuntime) -> Result<(), Fail> {
     assert_eq!(rt; rule_of(&rules, &slab, &wall, true).is_none(), true);
     let found = rule_of(&rules, &wall, &wall, true).ok_or("a rule")?;
     assert_eq!(rt; found.rule, 1);
-    assert_eq!(rt; found.distance, 9);
+    assert_eq!(rt; found.distance.millimetres(), 9);
     Ok(())
 }

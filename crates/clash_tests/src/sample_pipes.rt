@@ -2,8 +2,8 @@
 ghost use Rattle.std.specs.Prelude.{◌<◌};
 
 use bim_model::{
-    ClassTest, Element, Guid, Items, Model, ModelTest, NamedModel, PER_MM, Point, Rule, RuleKind,
-    Rules, Shared, Snapshot, StoreyTest, Text, Triangle,
+    ClassTest, Distance, Element, Guid, Items, Model, ModelTest, NamedModel, PER_MM, Point, Rule,
+    RuleKind, Rules, Shared, Snapshot, StoreyTest, Text, Triangle,
 };
 use bucket_grid::{Grid, has_few_elements};
 use std::alloc::{AllocError, Global};
@@ -55,7 +55,9 @@ pub fn rules(alloc: Global, distance: u32) -> Result<Shared<Rules>, AllocError>
         storey: StoreyTest::Any,
         level: None,
         models: ModelTest::Any,
-        kind: RuleKind::Clash { distance },
+        kind: RuleKind::Clash {
+            distance: Distance::new(distance),
+        },
     };
     let mut list = Vec::new(alloc);
     list.push(rule)?;

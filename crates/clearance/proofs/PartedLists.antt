@@ -9,8 +9,8 @@ use Rattle.exact_arith.proofs.Ranges.{in_128, same_128}
 use Rattle.clearance.specs.declared.projections.Interval.{Interval}
 use Rattle.clearance.specs.Near.{FacesNear, ListsNear}
 use Rattle.clearance.specs.Apart.{Apart}
-use Rattle.clearance.specs.Boxes.{InExtent}
-use Rattle.clearance.specs.Runs.{AllIn, AllReach, Reaches}
+use Rattle.clearance.specs.BoxContainment.{InExtent}
+use Rattle.clearance.specs.TriangleRuns.{AllIn, AllReach, Reaches}
 use Rattle.clearance.specs.Projections.{InInterval, Longer, ProjectsIn, AllProjectIn}
 use Rattle.clearance.proofs.Gaps.{near_swaps}
 use Rattle.clearance.proofs.Parted.{parted}

@@ -1,9 +1,9 @@
 pub mod Near
-pub mod Corners
-pub mod Rows
+pub mod TriangleCorners
+pub mod EdgePairs
 pub mod Planes
-pub mod Boxes
-pub mod Runs
+pub mod BoxContainment
+pub mod TriangleRuns
 pub mod Apart
 pub mod Decided
 pub mod Projections

@@ -3,8 +3,8 @@ use Rattle.std.specs.Prelude.{ℕ, ℤ, pos, ◌-ℤ◌, ◌*ℤ◌, ◌≤ℤ�
 use Rattle.exact_arith.specs.Space.{minus, dot_of, Face, normal}
 use Rattle.tri_exact.specs.Within.{FootWithin}
 use Rattle.tri_exact.specs.Pierce.{PiercesFace}
-use Rattle.tri_exact.specs.Limits.{height_limit, square_limit}
-use Rattle.tri_exact.specs.Places.{at, straight}
+use Rattle.tri_exact.specs.ProductLimits.{height_limit, square_limit}
+use Rattle.tri_exact.specs.GridVectors.{at, straight}
 use Rattle.clearance.specs.declared.planes.Plane.{Plane}
 use Rattle.clearance.specs.declared.planes.Heights.{Heights}
 

@@ -1,9 +1,9 @@
 //! Directions in which two triangles lie apart by more than a distance.
 // A gap between two triangles across a direction.
 ghost use Rattle.std.specs.Prelude.{◌*◌, ◌≤◌, pos, ◌-ℤ◌, ◌≤ℤ◌, ◌<ℤ◌, unsigned_abs, IsTrue};
-ghost use Rattle.tri_exact.specs.Limits.{height_limit, square_limit, distance_limit};
+ghost use Rattle.tri_exact.specs.ProductLimits.{height_limit, square_limit, distance_limit};
 ghost use Rattle.clearance.specs.Near.{FacesNear};
-ghost use Rattle.clearance.specs.Corners.{face_of, InGrid};
+ghost use Rattle.clearance.specs.TriangleCorners.{face_of, InGrid};
 ghost use Rattle.clearance.specs.Apart.{Apart};
 
 use crate::corner_vectors::Corners;

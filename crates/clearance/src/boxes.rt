@@ -1,10 +1,10 @@
 //! Boxes round triangles, and whether two lie apart by more than a distance.
 // Boxes along the axes.
 ghost use Rattle.std.specs.Prelude.{◌≤◌, ◌<◌, pos, ◌+ℤ◌, ◌≤ℤ◌, ◌<ℤ◌, ◌↔◌, unsigned_abs, IsTrue, All};
-ghost use Rattle.tri_exact.specs.Limits.{distance_limit};
+ghost use Rattle.tri_exact.specs.ProductLimits.{distance_limit};
 ghost use Rattle.bim_model.specs.Points.{grid_limit, IsInGrid, shape_of};
 ghost use Rattle.bim_model.specs.Gaps.{gap};
-ghost use Rattle.clearance.specs.Boxes.{InExtent, IsExtent, Wider, IsOff};
+ghost use Rattle.clearance.specs.BoxContainment.{InExtent, IsExtent, Wider, IsOff};
 
 use bim_model::{Extent, GRID_LIMIT, Point, Triangle};
 

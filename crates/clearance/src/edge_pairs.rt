@@ -1,11 +1,11 @@
 //! Whether an edge of one triangle comes near another's edges.
 // The edges of two triangles: for each pair of corners the edges that start there.
 ghost use Rattle.std.specs.Prelude.{◌≡◌, ◌≤◌, ◌↔◌, unsigned_abs, IsTrue};
-ghost use Rattle.tri_exact.specs.Limits.{product_limit, distance_limit};
+ghost use Rattle.tri_exact.specs.ProductLimits.{product_limit, distance_limit};
 ghost use Rattle.exact_arith.specs.Space.{dot_of, minus};
-ghost use Rattle.tri_exact.specs.Places.{at, IsPoint};
-ghost use Rattle.clearance.specs.Corners.{face_of, InGrid};
-ghost use Rattle.clearance.specs.Rows.{CornerNear, RowNear, EdgesNear};
+ghost use Rattle.tri_exact.specs.GridVectors.{at, IsPoint};
+ghost use Rattle.clearance.specs.TriangleCorners.{face_of, InGrid};
+ghost use Rattle.clearance.specs.EdgePairs.{CornerNear, RowNear, EdgesNear};
 
 use crate::corner_vectors::Corners;
 use tri_exact::products::{difference, scalar};

@@ -1,8 +1,8 @@
 //! Planes of triangles, and heights of corners over them.
 // A triangle's plane, and the heights of another triangle's corners over it.
 ghost use Rattle.std.specs.Prelude.{ℕ, ◌≤◌, ℤ, ◌≤ℤ◌, unsigned_abs, IsTrue};
-ghost use Rattle.tri_exact.specs.Limits.{height_limit, square_limit, distance_limit};
-ghost use Rattle.clearance.specs.Corners.{face_of, InGrid};
+ghost use Rattle.tri_exact.specs.ProductLimits.{height_limit, square_limit, distance_limit};
+ghost use Rattle.clearance.specs.TriangleCorners.{face_of, InGrid};
 ghost use Rattle.clearance.specs.Planes.{IsPlane, IsOver, IsTall, Clear, IsClear};
 
 use crate::corner_vectors::Corners;

@@ -1,12 +1,12 @@
 //! Lists of triangles projected on a direction, and whether a gap lies between two of them.
 // Triangles projected on a direction, and gaps between all of one list and all of another.
 ghost use Rattle.std.specs.Prelude.{◌≤◌, ◌≤ℤ◌, unsigned_abs, IsTrue, IfSome, All};
-ghost use Rattle.tri_exact.specs.Limits.{height_limit, distance_limit};
-ghost use Rattle.tri_exact.specs.Places.{at, straight, IsPoint};
+ghost use Rattle.tri_exact.specs.ProductLimits.{height_limit, distance_limit};
+ghost use Rattle.tri_exact.specs.GridVectors.{at, straight, IsPoint};
 ghost use Rattle.bim_model.specs.Points.{IsInGrid, shape_of};
 ghost use Rattle.clearance.specs.Near.{ListsNear};
-ghost use Rattle.clearance.specs.Boxes.{IsExtent};
-ghost use Rattle.clearance.specs.Runs.{AllIn, AllReach};
+ghost use Rattle.clearance.specs.BoxContainment.{IsExtent};
+ghost use Rattle.clearance.specs.TriangleRuns.{AllIn, AllReach};
 ghost use Rattle.clearance.specs.Projections.{InInterval, IsInterval, Longer, ProjectsIn, AllProjectIn};
 
 use crate::apart::{HEIGHT, highest, is_gap, lowest};

@@ -1,11 +1,11 @@
 //! Whether a triangle's corners come near the face of another.
 // A triangle with an area, and the corners and edges of another.
 ghost use Rattle.std.specs.Prelude.{◌≡◌, ◌≤◌, ◌↔◌, unsigned_abs, IsTrue};
-ghost use Rattle.tri_exact.specs.Limits.{height_limit, distance_limit};
+ghost use Rattle.tri_exact.specs.ProductLimits.{height_limit, distance_limit};
 ghost use Rattle.exact_arith.specs.Space.{dot_of, minus, normal};
-ghost use Rattle.tri_exact.specs.Places.{at, IsPoint};
+ghost use Rattle.tri_exact.specs.GridVectors.{at, IsPoint};
 ghost use Rattle.tri_exact.specs.Within.{HasArea, FootWithin};
-ghost use Rattle.clearance.specs.Corners.{face_of, InGrid};
+ghost use Rattle.clearance.specs.TriangleCorners.{face_of, InGrid};
 ghost use Rattle.clearance.specs.Planes.{IsPlane, IsOver, IsTall, SideNear};
 
 use crate::corner_vectors::Corners;

@@ -1,7 +1,7 @@
 //! Whether two elements come within a distance.
 // Two elements.
 ghost use Rattle.std.specs.Prelude.{◌≡◌, ◌+◌, ◌≤◌, ◌↔◌, IsTrue, All};
-ghost use Rattle.tri_exact.specs.Limits.{distance_limit};
+ghost use Rattle.tri_exact.specs.ProductLimits.{distance_limit};
 ghost use Rattle.bim_model.specs.Points.{IsInGrid};
 ghost use Rattle.clearance.specs.Near.{ListsNear, ElementsNear, ElementInGrid};
 ghost use Rattle.clearance.specs.Decided.{is_near_lists, is_near};

@@ -2,11 +2,11 @@
 // Lists of triangles in runs of sixteen, each run with its box, so that most runs are passed over at once.
 // The boxes of up to 512 triangles lie on the stack.
 ghost use Rattle.std.specs.Prelude.{false, ◌≡◌, ◌<◌, ◌≤◌, ◌↔◌, ◌⊎◌, IsTrue, All, length, take, drop};
-ghost use Rattle.tri_exact.specs.Limits.{distance_limit};
+ghost use Rattle.tri_exact.specs.ProductLimits.{distance_limit};
 ghost use Rattle.bim_model.specs.Points.{IsInGrid, shape_of};
 ghost use Rattle.clearance.specs.Near.{Near, NearAny, ListsNear};
-ghost use Rattle.clearance.specs.Boxes.{InExtent, IsExtent, Wider, IsOff};
-ghost use Rattle.clearance.specs.Runs.{AllIn, AllReach, RunsIn, NoneInRow};
+ghost use Rattle.clearance.specs.BoxContainment.{InExtent, IsExtent, Wider, IsOff};
+ghost use Rattle.clearance.specs.TriangleRuns.{AllIn, AllReach, RunsIn, NoneInRow};
 
 use crate::boxes::{extent_of, extent_of_all, is_off, join, no_extent};
 use crate::projections::lists_apart;

@@ -1,11 +1,11 @@
 //! Whether two triangles come within a distance, by planes, edges and faces.
 // Two triangles.
 ghost use Rattle.std.specs.Prelude.{◌≡◌, ◌≤◌, ◌↔◌, IsTrue};
-ghost use Rattle.tri_exact.specs.Limits.{distance_limit};
+ghost use Rattle.tri_exact.specs.ProductLimits.{distance_limit};
 ghost use Rattle.bim_model.specs.Points.{IsInGrid};
 ghost use Rattle.clearance.specs.Near.{FacesNear, Near};
 ghost use Rattle.clearance.specs.Decided.{is_near_triangles};
-ghost use Rattle.clearance.specs.Corners.{face_of, InGrid};
+ghost use Rattle.clearance.specs.TriangleCorners.{face_of, InGrid};
 ghost use Rattle.clearance.specs.Planes.{IsPlane};
 
 use crate::apart::is_apart;

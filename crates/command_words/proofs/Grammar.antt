@@ -6,7 +6,7 @@ use Rattle.clap.specs.Faults.{is_free_app}
 use Rattle.clap.specs.declared.error.Error.{Error}
 use Rattle.clap.specs.declared.error.kind.ErrorKind.TheVariants.{OutOfMemory}
 use Rattle.clap.specs.declared.parser.matches.ArgMatches.{ArgMatches}
-use Rattle.command_words.specs.Words.{IsParse, IsPlainCommand, said_by}
+use Rattle.command_words.specs.CommandOptions.{IsParse, IsPlainCommand, said_by}
 use Rattle.command_words.proofs.Taking.{takes_faultless}
 
 simple_of : (command : App) → IsPlainCommand command → is_simple command ≡ true

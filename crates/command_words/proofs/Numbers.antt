@@ -7,7 +7,7 @@ use Rattle.std.specs.Str.Parse.{ParsesUnsigned, digits_value}
 use Rattle.std.proofs.lemmas.Bool.{and_parts, cases_lt, leb-true}
 use Rattle.std.proofs.lemmas.Bool.Decides.{nat_tests}
 use Rattle.std.proofs.lemmas.Str.Parse.{IsNumeralModel, numerals_by_value, parse_digits, tells_all_ascii_digits}
-use Rattle.command_words.specs.Numbers.{is_number, number_word, within}
+use Rattle.command_words.specs.NumberWords.{is_number, number_word, within}
 
 digits_are : (text : List ℕ) → all_ascii_digits text ≡ list_all is_ascii_digit text
 digits_are [] = refl

@@ -1,2 +1,2 @@
-pub mod Numbers
-pub mod Words
+pub mod NumberWords
+pub mod CommandOptions

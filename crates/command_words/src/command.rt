@@ -1,7 +1,7 @@
 //! Commands and their options.
 ghost use Rattle.std.specs.Prelude.{◌≡◌, IfOk};
 ghost use Rattle.clap.specs.Words.{app_of, with_rule};
-ghost use Rattle.command_words.specs.Words.{bare_command, option_of, flag_of, list_of};
+ghost use Rattle.command_words.specs.CommandOptions.{bare_command, option_of, flag_of, list_of};
 
 use clap::{Arg, ArgAction, Command};
 use std::alloc::{AllocError, Global};

@@ -3,7 +3,7 @@ ghost use Rattle.std.specs.Prelude.{◌≡◌, ◌≤◌, IfSome};
 ghost use Rattle.std.specs.List.{list_all};
 ghost use Rattle.std.specs.Char.{is_ascii_digit};
 ghost use Rattle.std.specs.Str.{bytes_eq};
-ghost use Rattle.command_words.specs.Numbers.{is_number, within, number_word};
+ghost use Rattle.command_words.specs.NumberWords.{is_number, within, number_word};
 
 /// Whether a text is this word.
 pub fn is_word(text: &str, wanted: &str) -> bool

@@ -1,7 +1,7 @@
 //! What a parse finds in words.
 ghost use Rattle.std.specs.Prelude.{◌≡◌, map, IfOk};
 ghost use Rattle.clap.specs.Words.{app_of};
-ghost use Rattle.command_words.specs.Words.{IsPlainCommand, IsParse};
+ghost use Rattle.command_words.specs.CommandOptions.{IsPlainCommand, IsParse};
 
 use bim_model::Text;
 use clap::error::ErrorKind;

@@ -14,11 +14,11 @@ use Rattle.bim_model.specs.Snapshots.{Version}
 use Rattle.bucket_check.specs.declared.pair.SetPair.{SetPair}
 use Rattle.clash_rules.specs.declared.rule_fault.RuleFault.{RuleFault}
 use Rattle.clash_rules.specs.declared.rule_fault.RuleFault.TheVariants.{TooManyRules, BadRule, Distance}
-use Rattle.coord_json.specs.Rules.{storey_tree, class_text, storeys_text, models_text, clash_tree, ignore_tree, kind_tree, rule_items}
+use Rattle.coord_json.specs.RuleTrees.{storey_tree, class_text, storeys_text, models_text, clash_tree, ignore_tree, kind_tree, rule_items}
 use Rattle.coord_json.specs.Errors.{error_tree, error_at, error_of, error_to, error_many, error_named, error_index, error_count, error_full, error_place, error_store, error_newest, error_version}
-use Rattle.coord_json.specs.Faults.{upload_fault_tree, rule_fault_tree}
-use Rattle.coord_json.specs.Versions.{length_tree, box_tree, element_tree, model_tree, version_tree, changed_tree, AreElementTrees, AreModelTrees}
-use Rattle.coord_json.specs.Clashes.{side_tree, pair_tree, pair_items, part_tree, clashes_tree, pending_tree}
+use Rattle.coord_json.specs.FaultTrees.{upload_fault_tree, rule_fault_tree}
+use Rattle.coord_json.specs.VersionTrees.{length_tree, box_tree, element_tree, model_tree, version_tree, changed_tree, AreElementTrees, AreModelTrees}
+use Rattle.coord_json.specs.ClashTrees.{side_tree, pair_tree, pair_items, part_tree, clashes_tree, pending_tree}
 
 pub error_has_none : (code name : List ℕ) → has_float (error_tree code name) ≡ false
 unfolding error_tree

@@ -9,9 +9,9 @@ use Rattle.bim_model.specs.declared.named_model.NamedModel.{NamedModel}
 use Rattle.bim_model.specs.declared.rules.Rule.{Rule}
 use Rattle.bim_model.specs.Snapshots.{Version}
 use Rattle.bucket_check.specs.declared.pair.SetPair.{SetPair}
-use Rattle.coord_json.specs.Rules.{rule_tree, rule_items}
-use Rattle.coord_json.specs.Clashes.{clash_data, pair_items}
-use Rattle.coord_json.specs.Versions.{IsElementTree, AreElementTrees, IsModelTree, AreModelTrees}
+use Rattle.coord_json.specs.RuleTrees.{rule_tree, rule_items}
+use Rattle.coord_json.specs.ClashTrees.{clash_data, pair_items}
+use Rattle.coord_json.specs.VersionTrees.{IsElementTree, AreElementTrees, IsModelTree, AreModelTrees}
 
 elements_push : (es : List Element) (vs : List Value) (e : Element) (v : Value)
     → AreElementTrees es (items_view vs) → IsElementTree e (view v) → AreElementTrees (es ++ e ∷ []) (items_view (vs ++ v ∷ []))

@@ -1,5 +1,5 @@
 pub mod Errors
-pub mod Faults
-pub mod Rules
-pub mod Versions
-pub mod Clashes
+pub mod FaultTrees
+pub mod RuleTrees
+pub mod VersionTrees
+pub mod ClashTrees

@@ -3,14 +3,15 @@ ghost use Rattle.std.specs.Prelude.{◌≡◌, ◌<◌, All, length, IfOk};
 ghost use Rattle.serde_json.specs.View.{view, items_view};
 ghost use Rattle.bim_model.specs.Keys.{subjects_of};
 ghost use Rattle.clash_publish.specs.Listed.{IsClash};
-ghost use Rattle.coord_json.specs.Clashes.{side_tree, element_side, pair_tree, clash_data, pair_items, part_tree, clashes_tree, pending_tree};
+ghost use Rattle.coord_json.specs.ClashTrees.{side_tree, element_side, pair_tree, clash_data, pair_items, part_tree, clashes_tree, pending_tree};
 
+use bim_model::Distance;
 use bucket_check::SetPair;
 use clash_publish::Published;
 use serde_json::{Value, json};
 use std::alloc::{AllocError, Global};
 
-#[tactic(auto, unfolding(crate::specs::Clashes::side_tree))]
+#[tactic(auto, unfolding(crate::specs::ClashTrees::side_tree))]
 fn side_tree(alloc: Global, guid: &str, model: &str) -> Result<Value, AllocError>
     ensures { IfOk result (λ v. view v ≡ side_tree guid.now model.now) }
 {
@@ -26,17 +27,17 @@ fn side_out(alloc: Global, set: &Published, number: u32) -> Result<Value, AllocE
     side_tree(alloc, element.guid.as_str(), set.model_name(number))
 }
 
-#[tactic(auto, unfolding(crate::specs::Clashes::pair_tree))]
+#[tactic(auto, unfolding(crate::specs::ClashTrees::pair_tree))]
 fn pair_tree(
     alloc: Global,
     a: Value,
     b: Value,
-    distance: u32,
+    distance: Distance,
     rule: u32,
 ) -> Result<Value, AllocError>
     ensures { IfOk result (λ v. view v ≡ pair_tree (view a) (view b) distance rule) }
 {
-    json!(in alloc; { "a": a, "b": b, "distance": distance, "rule": rule })
+    json!(in alloc; { "a": a, "b": b, "distance": distance.millimetres(), "rule": rule })
 }
 
 fn pair_out(alloc: Global, set: &Published, pair: SetPair) -> Result<Value, AllocError>
@@ -60,7 +61,7 @@ fn pairs_out(alloc: Global, set: &Published, pairs: &[SetPair]) -> Result<Vec<Va
     Ok(trees)
 }
 
-#[tactic(auto, unfolding(crate::specs::Clashes::part_tree))]
+#[tactic(auto, unfolding(crate::specs::ClashTrees::part_tree))]
 fn part_tree(
     alloc: Global,
     pairs: Vec<Value>,
@@ -89,7 +90,7 @@ pub fn clashes_out(
 }
 
 /// How many buckets of a version are still to be checked, as an object.
-#[tactic(auto, unfolding(crate::specs::Clashes::pending_tree))]
+#[tactic(auto, unfolding(crate::specs::ClashTrees::pending_tree))]
 pub fn pending_out(alloc: Global, left: u64, version: u64) -> Result<Value, AllocError>
     ensures { IfOk result (λ v. view v ≡ pending_tree left version) }
 {

@@ -1,9 +1,9 @@
 //! Clash rules as JSON values.
 ghost use Rattle.std.specs.Prelude.{◌≡◌, IfOk};
 ghost use Rattle.serde_json.specs.View.{view, items_view};
-ghost use Rattle.coord_json.specs.Rules.{class_text, storeys_text, models_text, storey_tree, clash_tree, ignore_tree, kind_tree, rule_tree, rule_items};
+ghost use Rattle.coord_json.specs.RuleTrees.{class_text, storeys_text, models_text, storey_tree, clash_tree, ignore_tree, kind_tree, rule_tree, rule_items};
 
-use bim_model::{ClassTest, ModelTest, Rule, RuleKind, StoreyTest, Text};
+use bim_model::{ClassTest, Distance, ModelTest, Rule, RuleKind, StoreyTest, Text};
 use serde_json::{Value, json};
 use std::alloc::{AllocError, Global};
 
@@ -46,12 +46,12 @@ fn models_text(test: ModelTest) -> &'static str
     }
 }
 
-#[tactic(auto, unfolding(crate::specs::Rules::clash_tree))]
+#[tactic(auto, unfolding(crate::specs::RuleTrees::clash_tree))]
 fn clash_tree(
     alloc: Global,
     a: &str,
     b: &str,
-    distance: u32,
+    distance: Distance,
     level: Value,
     models: &str,
     storey: &str,
@@ -61,7 +61,7 @@ fn clash_tree(
     json!(in alloc; {
         "a": a,
         "b": b,
-        "distance": distance,
+        "distance": distance.millimetres(),
         "kind": "clash",
         "level": level,
         "models": models,
@@ -69,7 +69,7 @@ fn clash_tree(
     })
 }
 
-#[tactic(auto, unfolding(crate::specs::Rules::ignore_tree))]
+#[tactic(auto, unfolding(crate::specs::RuleTrees::ignore_tree))]
 fn ignore_tree(
     alloc: Global,
     a: &str,

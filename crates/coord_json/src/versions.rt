@@ -2,10 +2,10 @@
 ghost use Rattle.std.specs.Prelude.{◌≡◌, ◌<◌, ◌++◌, ◌∷◌, [], All, length, IfOk, OnOk};
 ghost use Rattle.serde_json.specs.View.{view, items_view};
 ghost use Rattle.bim_model.specs.Models.{IsModel, IsModelled};
-ghost use Rattle.coord_json.specs.Versions.{box_tree, element_tree, model_tree, version_tree, changed_tree, IsElementTree, AreElementTrees, IsModelTree, AreModelTrees, IsVersionTree};
+ghost use Rattle.coord_json.specs.VersionTrees.{box_tree, element_tree, model_tree, version_tree, changed_tree, IsElementTree, AreElementTrees, IsModelTree, AreModelTrees, IsVersionTree};
 
 use crate::rule_values::{rules_out, storey_out};
-use bim_model::{Element, Extent, NamedModel, Snapshot, extent_of};
+use bim_model::{Element, Extent, NamedModel, PER_MM, Snapshot, extent_of};
 use serde_json::{Value, json};
 use std::alloc::{AllocError, Global};
 
@@ -16,7 +16,7 @@ fn box_out(alloc: Global, extent: Extent) -> Result<Value, AllocError>
     json!(in alloc; [low.x, low.y, low.z, high.x, high.y, high.z])
 }
 
-#[tactic(auto, unfolding(crate::specs::Versions::element_tree))]
+#[tactic(auto, unfolding(crate::specs::VersionTrees::element_tree))]
 fn element_tree(
     alloc: Global,
     extent: Value,
@@ -79,7 +79,7 @@ fn elements_out(alloc: Global, elements: &[Element]) -> Result<Vec<Value>, Alloc
     Ok(trees)
 }
 
-#[tactic(auto, unfolding(crate::specs::Versions::model_tree))]
+#[tactic(auto, unfolding(crate::specs::VersionTrees::model_tree))]
 fn model_tree(alloc: Global, elements: Vec<Value>, name: &str) -> Result<Value, AllocError>
     ensures { IfOk result (λ v. view v ≡ model_tree (items_view elements.items) name.now) }
 {
@@ -108,7 +108,7 @@ fn models_out(alloc: Global, models: &[NamedModel]) -> Result<Vec<Value>, AllocE
     Ok(trees)
 }
 
-#[tactic(auto, unfolding(crate::specs::Versions::version_tree))]
+#[tactic(auto, unfolding(crate::specs::VersionTrees::version_tree))]
 fn version_tree(
     alloc: Global,
     models: Vec<Value>,
@@ -121,10 +121,16 @@ fn version_tree(
 {
     let models = Value::Array(models);
     let rules = Value::Array(rules);
-    json!(in alloc; { "models": models, "newest": newest, "rules": rules, "version": version })
+    json!(in alloc; {
+        "models": models,
+        "newest": newest,
+        "per_mm": PER_MM,
+        "rules": rules,
+        "version": version
+    })
 }
 
-/// A version with its models and its rules, as an object.
+/// A version with its models and its rules, and how many grid numbers a millimetre has, as an object.
 pub fn version_out(
     alloc: Global,
     version: u64,
@@ -140,7 +146,7 @@ pub fn version_out(
 
 /// What an upload made, as an object: the number of the version, how many elements and triangles the uploaded
 /// model has, and how many buckets are to be checked.
-#[tactic(auto, unfolding(crate::specs::Versions::changed_tree))]
+#[tactic(auto, unfolding(crate::specs::VersionTrees::changed_tree))]
 pub fn changed_out(
     alloc: Global,
     version: u64,

@@ -14,7 +14,7 @@ use Rattle.ear_cut.specs.declared.ears.Ear.{Ear}
 use Rattle.exact_arith.specs.Space.{Vector, nowhere, plus, cross_of}
 use Rattle.bim_model.specs.Points.{vector_of}
 use Rattle.bim_model.specs.Polygons.{along, normal_of}
-use Rattle.ear_cut.specs.Views.{view_of}
+use Rattle.ear_cut.specs.PolygonViews.{view_of}
 use Rattle.ear_cut.specs.Corners.{corners_from, previous, next, nobody, turn_at, angle_of, is_straight}
 use Rattle.ear_cut.specs.Removal.{first_from, is_ear, or_else, choice, ear_of, is_turned_over, cut_by, cut_of}
 use Rattle.ear_cut.specs.Areas.{point_at, area_of_ear, area_of_ears}

@@ -10,7 +10,7 @@ use Rattle.ear_cut.specs.declared.polygon_view.View.{View}
 use Rattle.ear_cut.specs.declared.corners.Corner.{Corner}
 use Rattle.ear_cut.specs.declared.corners.Turn.{Turn}
 use Rattle.ear_cut.specs.declared.corners.Angle.TheVariants.{Convex}
-use Rattle.ear_cut.specs.Views.{Spot, seen, area, same_spot, is_corner, holds}
+use Rattle.ear_cut.specs.PolygonViews.{Spot, seen, area, same_spot, is_corner, holds}
 use Rattle.ear_cut.specs.Corners.{previous, next, nobody, turn_at, angle_of, is_straight, by_sign}
 use Rattle.ear_cut.specs.Removal.{choice, first_from, or_else, is_ear, is_ear_at, is_free}
 use Rattle.ear_cut.specs.Fans.{spot_at, area_at, IsFan}

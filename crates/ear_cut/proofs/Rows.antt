@@ -4,7 +4,7 @@ use Rattle.bim_model.specs.declared.geometry.Point.{Point}
 use Rattle.ear_cut.specs.declared.ears.Ear.{Ear}
 use Rattle.ear_cut.specs.Removal.{cut_of, cut_by, choice}
 use Rattle.ear_cut.specs.Corners.{angle_of, turn_at}
-use Rattle.ear_cut.specs.Views.{area, holds}
+use Rattle.ear_cut.specs.PolygonViews.{area, holds}
 
 abbrev at : ℤ → ℤ → ℤ → Point
 at x y z = record { x = x; y = y; z = z }

@@ -5,7 +5,7 @@ use Rattle.exact_arith.proofs.Ring.{ring, Term, at, lit, ◌⊕◌, ◌⊖◌, �
 use Rattle.exact_arith.proofs.Order.{mul_positive}
 use Rattle.ear_cut.specs.declared.polygon_view.View.{View}
 use Rattle.ear_cut.specs.declared.corners.Angle.TheVariants.{Convex}
-use Rattle.ear_cut.specs.Views.{Spot, bend, signed, area}
+use Rattle.ear_cut.specs.PolygonViews.{Spot, bend, signed, area}
 use Rattle.ear_cut.specs.Corners.{by_sign}
 
 abbrev pub bent : Term → Term → Term → Term → Term → Term → Term

@@ -8,7 +8,7 @@ use Rattle.ear_cut.specs.declared.corners.Corner.{Corner}
 use Rattle.ear_cut.specs.declared.ears.Ear.{Ear}
 use Rattle.bim_model.specs.Points.{IsGridPoint}
 use Rattle.bim_model.specs.Polygons.{normal_of}
-use Rattle.ear_cut.specs.Views.{view_of}
+use Rattle.ear_cut.specs.PolygonViews.{view_of}
 use Rattle.ear_cut.specs.Corners.{corners_from, turn_at, angle_of, AreInGrid}
 use Rattle.ear_cut.proofs.Places.{length-corners}
 use Rattle.ear_cut.specs.Removal.{choice, ear_of, is_turned_over, cut_by, cut_of}

@@ -8,7 +8,7 @@ use Rattle.ear_cut.specs.declared.corners.Angle.{Angle}
 use Rattle.ear_cut.specs.declared.corners.Angle.TheVariants.{Straight, Convex, Reflex}
 use Rattle.bim_model.specs.Points.{IsGridPoint, step}
 use Rattle.exact_arith.specs.Space.{is_nowhere, cross_of}
-use Rattle.ear_cut.specs.Views.{seen, area}
+use Rattle.ear_cut.specs.PolygonViews.{seen, area}
 
 -- points with their places, counted from n on
 abbrev pub corners_from : ℕ → List Point → List Corner

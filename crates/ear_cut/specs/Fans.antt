@@ -2,7 +2,7 @@
 use Rattle.std.specs.Prelude.{ℕ, ◌+◌, ◌-◌, ◌<◌, ℤ, pos, ◌<ℤ◌, List, length, slice_index_or}
 use Rattle.ear_cut.specs.declared.polygon_view.View.{View}
 use Rattle.ear_cut.specs.declared.corners.Corner.{Corner}
-use Rattle.ear_cut.specs.Views.{Spot, seen, area}
+use Rattle.ear_cut.specs.PolygonViews.{Spot, seen, area}
 use Rattle.ear_cut.specs.Corners.{nobody}
 
 -- the i-th corner as the view shows it

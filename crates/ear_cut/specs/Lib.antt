@@ -1,9 +1,9 @@
-pub mod Limits
-pub mod Views
+pub mod OutlineLimits
+pub mod PolygonViews
 pub mod Corners
 pub mod Removal
 pub mod Registers
-pub mod Notes
+pub mod EarNotes
 pub mod Areas
 pub mod Fans
-pub mod Frames
+pub mod CornerFrames

@@ -4,7 +4,7 @@ use Rattle.ear_cut.specs.declared.normals.Normal.{Normal}
 use Rattle.ear_cut.specs.declared.coordinates.Way.{Way}
 use Rattle.ear_cut.specs.declared.coordinates.Flat.{Flat}
 use Rattle.exact_arith.specs.Space.{Vector}
-use Rattle.ear_cut.specs.Views.{Spot}
+use Rattle.ear_cut.specs.PolygonViews.{Spot}
 
 -- a normal as a vector
 abbrev pub as_vector : Normal → Vector

@@ -10,7 +10,7 @@ use Rattle.ear_cut.specs.declared.corners.Angle.{Angle}
 use Rattle.ear_cut.specs.declared.corners.Angle.TheVariants.{Straight, Convex, Reflex}
 use Rattle.ear_cut.specs.declared.ears.Ear.{Ear}
 use Rattle.bim_model.specs.Polygons.{normal_of}
-use Rattle.ear_cut.specs.Views.{seen, holds, view_of}
+use Rattle.ear_cut.specs.PolygonViews.{seen, holds, view_of}
 use Rattle.ear_cut.specs.Corners.{corners_from, turn_at, angle_of, is_straight}
 
 -- the first of n numbers from i on that passes

@@ -3,8 +3,8 @@
 ghost use Rattle.std.specs.Prelude.{◌≡◌, ◌≤◌, ◌<◌, ◌+◌, ◌*◌, ℕ, length, IfOk, int_lt};
 ghost use Rattle.ear_cut.specs.Corners.{AreInGrid};
 ghost use Rattle.ear_cut.specs.Registers.{as_spot};
-ghost use Rattle.ear_cut.specs.Views.{Spot};
-ghost use Rattle.ear_cut.specs.Frames.{run, IsIn, is_apart, IsRound, AreRound, AreFrames, AreFramesIn, AreFramesBefore};
+ghost use Rattle.ear_cut.specs.PolygonViews.{Spot};
+ghost use Rattle.ear_cut.specs.CornerFrames.{run, IsIn, is_apart, IsRound, AreRound, AreFrames, AreFramesIn, AreFramesBefore};
 
 use crate::coordinates::{Flat, Shape};
 use crate::corners::Corner;

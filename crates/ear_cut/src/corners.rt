@@ -3,7 +3,7 @@
 ghost use Rattle.std.specs.Prelude.{◌≡◌, ◌≤◌, ◌<◌, length, All, IfOk};
 ghost use Rattle.bim_model.specs.Points.{IsGridPoint, step};
 ghost use Rattle.exact_arith.specs.Space.{is_nowhere, cross_of};
-ghost use Rattle.ear_cut.specs.Limits.{most_corners};
+ghost use Rattle.ear_cut.specs.OutlineLimits.{most_corners};
 ghost use Rattle.ear_cut.specs.Corners.{corners_from, previous, next, turn_at, angle_of, by_sign, InGrid};
 
 use crate::normals::{cross, step};

@@ -3,7 +3,7 @@
 ghost use Rattle.std.specs.Prelude.{◌≡◌, ◌≤◌, pos, int_lt, unsigned_abs};
 ghost use Rattle.bim_model.specs.Points.{IsGridPoint, cross_limit};
 ghost use Rattle.exact_arith.specs.Space.{is_nowhere};
-ghost use Rattle.ear_cut.specs.Views.{axis_of, component, view_of, seen, bend, area, same_spot, is_corner, holds};
+ghost use Rattle.ear_cut.specs.PolygonViews.{axis_of, component, view_of, seen, bend, area, same_spot, is_corner, holds};
 ghost use Rattle.ear_cut.specs.Registers.{as_vector, as_spot};
 
 use crate::coordinates::{Flat, Shape};

@@ -3,7 +3,7 @@
 ghost use Rattle.std.specs.Prelude.{◌≡◌, ◌≤◌, ◌<◌, ◌+◌, ◌-◌, length, All, IfOk, IfErr, MatchOption, None, Some};
 ghost use Rattle.bim_model.specs.Points.{IsGridPoint};
 ghost use Rattle.bim_model.specs.Polygons.{normal_of};
-ghost use Rattle.ear_cut.specs.Limits.{most_corners};
+ghost use Rattle.ear_cut.specs.OutlineLimits.{most_corners};
 ghost use Rattle.ear_cut.specs.Corners.{AreInGrid};
 ghost use Rattle.ear_cut.specs.Removal.{is_turned_over, cut_by, cut_of};
 ghost use Rattle.ear_cut.specs.Areas.{area_of_ears};

@@ -5,7 +5,7 @@ use Rattle.std.specs.Option.{IfSome, IfNone, MatchOption}
 use Rattle.p21_values.specs.declared.value.Value21.{Value21}
 use Rattle.p21_values.specs.declared.value.Instance.{Instance}
 use Rattle.faceset.specs.Indexes.{PointsAt, PointsNowhere}
-use Rattle.faceset.specs.Sets.{numbering, spelled_points, counted_by, rows_of, HasBadNumber, HasBadIndex, IsMisnamed, NamesPoint}
+use Rattle.faceset.specs.FaceSets.{numbering, spelled_points, counted_by, rows_of, HasBadNumber, HasBadIndex, IsMisnamed, NamesPoint}
 
 same_count : (world : List Instance) (set : Instance) (numbers : Option (List Value21)) (count within : ℕ) → numbers ≡ numbering set → count ≡ length (spelled_points world set)
     → within ≡ counted_by numbers count → within ≡ counted_by (numbering set) (length (spelled_points world set))

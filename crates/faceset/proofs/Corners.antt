@@ -6,7 +6,7 @@ use Rattle.std.proofs.lemmas.Option.{slice_get_within, get_or_from_slice_get}
 use Rattle.p21_values.specs.declared.value.Value21.{Value21}
 use Rattle.p21_values.specs.declared.value.Instance.{Instance}
 use Rattle.bim_model.specs.declared.geometry.Point.{Point}
-use Rattle.faceset.specs.Sets.{IsCorner, AreCorners, most_corners, outline, face_count}
+use Rattle.faceset.specs.FaceSets.{IsCorner, AreCorners, most_corners, outline, face_count}
 use Rattle.faceset.proofs.Zips.{zip_push, zip_length}
 
 -- what holds of all points holds of a corner

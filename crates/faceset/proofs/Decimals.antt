@@ -2,9 +2,9 @@
 use Rattle.std.proofs.Common.{◌≡◌, ◌≢◌, ℕ, zero, suc, ◌-◌, ◌*◌, ◌^◌, [], ◌<◌, ◌≤◌, ◌%◌, ℤ, pos, negsuc, ◌<ℤ◌, ◌≤ℤ◌, Bool, true, false, List, Option, Some, None, refl, sym, ap, subst, ◌∙◌, arith}
 use Rattle.std.proofs.lemmas.Int.{ints}
 use Rattle.bim_text.specs.declared.decimal.Decimal.{Decimal}
-use Rattle.bim_text.specs.Values.{whole, signed, SameValue}
+use Rattle.bim_text.specs.ScaledNumbers.{whole, signed, SameValue}
 use Rattle.std.specs.Option.{IfSome, IfNone, unwrap_or}
-use Rattle.bim_text.specs.Numbers.{written}
+use Rattle.bim_text.specs.NumberSpellings.{written}
 use Rattle.bim_text.specs.Decimals.{value_of, Reads, WritesWhole}
 use Rattle.bim_text.proofs.Parts.{parts_only}
 use Rattle.p21_values.specs.declared.value.Value21.{Value21}

@@ -5,7 +5,7 @@ use Rattle.p21_values.specs.declared.value.Value21.{Value21}
 use Rattle.p21_values.specs.declared.value.Instance.{Instance}
 use Rattle.bim_model.specs.declared.geometry.Triangle.{Triangle}
 use Rattle.p21_values.specs.Attributes.{led_to}
-use Rattle.faceset.specs.Sets.{face_count, Joined}
+use Rattle.faceset.specs.FaceSets.{face_count, Joined}
 use Rattle.faceset.proofs.Anys.{any_left, any_right}
 use Rattle.ifc_instances.proofs.LedTo.{led_append, led_more, led_parts}
 use Rattle.faceset.proofs.Named.{summed_more}

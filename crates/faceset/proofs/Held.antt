@@ -12,7 +12,7 @@ use Rattle.bim_model.specs.Boxes.{corners_of}
 use Rattle.ear_cut.specs.declared.ears.Ear.{Ear}
 use Rattle.ear_cut.specs.Areas.{point_at}
 use Rattle.ear_cut.specs.Corners.{nobody}
-use Rattle.faceset.specs.Sets.{numbering, is_polygonal, faces_of, spelled_triangles, outline, triangle_of, IsCorner, AreTriangles, IsCut, Joined, SetTriangles}
+use Rattle.faceset.specs.FaceSets.{numbering, is_polygonal, faces_of, spelled_triangles, outline, triangle_of, IsCorner, AreTriangles, IsCut, Joined, SetTriangles}
 use Rattle.faceset.proofs.Zips.{zip_all}
 use Rattle.faceset.proofs.Corners.{corner_has}
 

@@ -3,7 +3,7 @@ use Rattle.std.proofs.Common.{◌≡◌, ℕ, zero, suc, ◌<◌, List, [], ◌�
 use Rattle.std.specs.List.{cons_option}
 use Rattle.std.proofs.lemmas.List.{append-nil}
 use Rattle.bim_model.specs.declared.geometry.Triangle.{Triangle}
-use Rattle.faceset.specs.Sets.{Joined}
+use Rattle.faceset.specs.FaceSets.{Joined}
 
 pub joined_one : {X : Type 0} (Gives : X → List Triangle → Type 0) (x : X) (ts : List Triangle) → Gives x ts → Joined Gives (x ∷ []) ts
 joined_one Gives x ts gives = (ts, [], gives, refl, sym (append-nil ts))

@@ -3,10 +3,10 @@ use Rattle.std.proofs.Common.{◌≡◌, ◌≢◌, ◌⊎◌, inl, inr, ℕ, �
 use Rattle.std.proofs.lemmas.Option.{same_Some}
 use Rattle.p21_values.specs.declared.value.Instance.{Instance}
 use Rattle.p21_values.specs.Attributes.{reference_at}
-use Rattle.p21_values.specs.Looking.{look}
-use Rattle.faceset.specs.Counts.{AreCounts}
+use Rattle.p21_values.specs.InstanceLookup.{look}
+use Rattle.faceset.specs.PointCounts.{AreCounts}
 use Rattle.faceset.specs.Reaches.{PutsKept, kept_in}
-use Rattle.faceset.specs.Sets.{points_of, listed_in, spelled_points}
+use Rattle.faceset.specs.FaceSets.{points_of, listed_in, spelled_points}
 
 -- they are those of the list of that number
 

@@ -6,10 +6,10 @@ use Rattle.std.proofs.lemmas.List.Elements.{All-push}
 use Rattle.std.proofs.lemmas.Option.{same_Some}
 use Rattle.p21_values.specs.declared.value.Value21.{Value21}
 use Rattle.p21_values.specs.declared.value.Instance.{Instance}
-use Rattle.p21_values.specs.Looking.{look}
+use Rattle.p21_values.specs.InstanceLookup.{look}
 use Rattle.p21_values.specs.Values.{reference_of}
 use Rattle.faceset.specs.Indexes.{PointsAt, PointsNowhere}
-use Rattle.faceset.specs.Sets.{outline, faces_of, spelled_triangles, is_polygonal, rows_of}
+use Rattle.faceset.specs.FaceSets.{outline, faces_of, spelled_triangles, is_polygonal, rows_of}
 use Rattle.p21_values.specs.Attributes.{led_to, items_in, listed}
 use Rattle.faceset.specs.Reaches.{CountsFrom, AreReaches, IsWithin, PutsKept, kept_in}
 use Rattle.ifc_instances.proofs.LedTo.{led_one}

@@ -11,10 +11,10 @@ use Rattle.p21_values.specs.declared.value.Value21.{Value21}
 use Rattle.p21_values.specs.declared.value.Instance.{Instance}
 use Rattle.bim_model.specs.declared.geometry.Point.{Point}
 use Rattle.bim_model.specs.declared.geometry.Triangle.{Triangle}
-use Rattle.p21_values.specs.Looking.{look}
+use Rattle.p21_values.specs.InstanceLookup.{look}
 use Rattle.faceset.specs.Indexes.{PointsNowhere}
 use Rattle.p21_values.specs.Attributes.{listed, items_in, led_to}
-use Rattle.faceset.specs.Sets.{outline, numbering, spelled_points, spelled_triangles, is_polygonal, faces_of, face_ids, rows_of, counted_by, HasBadNumber, HasBadIndex, IsMisnamed, AreCorners, IsOutlined, HasThree, IsSound, IsCut, IsStuck, HasStuck, IsTriangle, AreTriangles, Joined, SetTriangles, face_count, triangle_count}
+use Rattle.faceset.specs.FaceSets.{outline, numbering, spelled_points, spelled_triangles, is_polygonal, faces_of, face_ids, rows_of, counted_by, HasBadNumber, HasBadIndex, IsMisnamed, AreCorners, IsOutlined, HasThree, IsSound, IsCut, IsStuck, HasStuck, IsTriangle, AreTriangles, Joined, SetTriangles, face_count, triangle_count}
 use Rattle.faceset.specs.Cuts.{IsLoose}
 use Rattle.faceset.proofs.Zips.{zip_length}
 use Rattle.faceset.proofs.Joins.{gives_one, contains_mapped, joined_at}

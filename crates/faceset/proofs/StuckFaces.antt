@@ -8,14 +8,14 @@ use Rattle.std.proofs.lemmas.Option.{same_Some}
 use Rattle.p21_values.specs.declared.value.Value21.{Value21}
 use Rattle.p21_values.specs.declared.value.Instance.{Instance}
 use Rattle.bim_model.specs.declared.geometry.Point.{Point}
-use Rattle.p21_values.specs.Looking.{look}
+use Rattle.p21_values.specs.InstanceLookup.{look}
 use Rattle.p21_values.specs.Values.{reference_of}
-use Rattle.faceset.specs.Sets.{IsStuck, IsOutlined, IsCorner, outline, face_ids, is_polygonal, numbering, HasStuck}
+use Rattle.faceset.specs.FaceSets.{IsStuck, IsOutlined, IsCorner, outline, face_ids, is_polygonal, numbering, HasStuck}
 use Rattle.p21_values.specs.Attributes.{listed}
 use Rattle.ifc_instances.specs.Least.{IsLeast, LeastOf}
 use Rattle.ifc_instances.proofs.Rising.{before}
 use Rattle.faceset.specs.Cuts.{HasMisnamed}
-use Rattle.faceset.specs.Numbers.{HaveSame, IsStuckFace, IsStuckIn}
+use Rattle.faceset.specs.FaceNumbers.{HaveSame, IsStuckFace, IsStuckIn}
 use Rattle.faceset.proofs.Zips.{zip_at}
 use Rattle.faceset.proofs.Unique.{named_well}
 

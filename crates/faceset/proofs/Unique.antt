@@ -8,11 +8,11 @@ use Rattle.p21_values.specs.declared.value.Value21.{Value21}
 use Rattle.p21_values.specs.declared.value.Instance.{Instance}
 use Rattle.bim_model.specs.declared.geometry.Point.{Point}
 use Rattle.bim_model.specs.declared.geometry.Triangle.{Triangle}
-use Rattle.p21_values.specs.Looking.{look}
+use Rattle.p21_values.specs.InstanceLookup.{look}
 use Rattle.ear_cut.specs.Removal.{cut_of}
 use Rattle.bim_text.specs.Decimals.{WritesWhole}
 use Rattle.faceset.specs.Indexes.{PointsAt}
-use Rattle.faceset.specs.Sets.{NamesPoint, IsMisnamed, IsCorner, AreCorners, IsTriangle, AreTriangles, triangle_of, outline, IsCut, IsStuck, Joined, SetTriangles, HasStuck, numbering, is_polygonal, faces_of, face_ids, spelled_triangles}
+use Rattle.faceset.specs.FaceSets.{NamesPoint, IsMisnamed, IsCorner, AreCorners, IsTriangle, AreTriangles, triangle_of, outline, IsCut, IsStuck, Joined, SetTriangles, HasStuck, numbering, is_polygonal, faces_of, face_ids, spelled_triangles}
 use Rattle.faceset.proofs.Decimals.{one_number}
 use Rattle.faceset.proofs.Zips.{zip_same}
 use Rattle.faceset.proofs.Joins.{contains_mapped, joined_at, joined_same}

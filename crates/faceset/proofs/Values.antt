@@ -5,7 +5,7 @@ use Rattle.std.proofs.Math.Nat.{one-le-pow, mul-le-mul_left, mul-le-mul_right, p
 use Rattle.bim_text.proofs.Powers.{signed_times}
 use Rattle.exact_arith.proofs.Order.{le_by_factor}
 use Rattle.exact_arith.proofs.Ring.{ring, at, ◌⊖◌, ◌⊗◌}
-use Rattle.bim_text.specs.Values.{Scaled, signed, above, below, numerator, denominator, SameValue}
+use Rattle.bim_text.specs.ScaledNumbers.{Scaled, signed, above, below, numerator, denominator, SameValue}
 
 antisym : (a b : ℤ) → a ≤ℤ b → b ≤ℤ a → a ≡ b
 antisym a b h k = omega (arith, ints)

@@ -9,7 +9,7 @@ use Rattle.ear_cut.specs.declared.ears.Ear.{Ear}
 use Rattle.ear_cut.specs.Removal.{cut_of}
 use Rattle.faceset.specs.declared.faces.Outcome.{Outcome}
 use Rattle.faceset.specs.declared.faces.Outcome.TheVariants.{Cut, Stuck, Unready}
-use Rattle.faceset.specs.Sets.{triangle_of, outline, IsMisnamed, IsOutlined, IsCut, IsStuck, face_count}
+use Rattle.faceset.specs.FaceSets.{triangle_of, outline, IsMisnamed, IsOutlined, IsCut, IsStuck, face_count}
 
 -- a polygon is cut into these triangles
 pub record CutsInto (corners : List Point) (triangles : List Triangle) : Type 0 where

@@ -3,7 +3,7 @@ use Rattle.std.specs.Prelude.{List}
 use Rattle.p21_values.specs.declared.value.Instance.{Instance}
 use Rattle.faceset.specs.declared.learnt.Learnt.{Learnt}
 use Rattle.faceset.specs.Reaches.{AreReaches}
-use Rattle.faceset.specs.Counts.{AreCounts}
+use Rattle.faceset.specs.PointCounts.{AreCounts}
 
 -- all that was learnt is so in a world
 pub record IsLearnt (world : List Instance) (learnt : Learnt) : Type 0 where

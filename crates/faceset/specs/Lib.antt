@@ -1,7 +1,7 @@
-pub mod Counts
+pub mod PointCounts
 pub mod Cuts
 pub mod Indexes
 pub mod Learnt
-pub mod Numbers
+pub mod FaceNumbers
 pub mod Reaches
-pub mod Sets
+pub mod FaceSets

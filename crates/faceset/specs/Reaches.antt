@@ -5,9 +5,9 @@ use Rattle.std.specs.Ordering.{nat_cmp}
 use Rattle.std.specs.BTreeMap.{is_at}
 use Rattle.p21_values.specs.declared.value.Value21.{Value21}
 use Rattle.p21_values.specs.declared.value.Instance.{Instance}
-use Rattle.p21_values.specs.Looking.{look}
+use Rattle.p21_values.specs.InstanceLookup.{look}
 use Rattle.faceset.specs.Indexes.{PointsNowhere}
-use Rattle.faceset.specs.Sets.{outline}
+use Rattle.faceset.specs.FaceSets.{outline}
 
 -- where there are so many things, or more, an index counts one of them
 abbrev pub CountsFrom : ℕ → Value21 → Type 0

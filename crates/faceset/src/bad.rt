@@ -3,7 +3,7 @@ ghost use Rattle.std.specs.Prelude.{◌≡◌, ◌<◌, ◌^◌, ◌∷◌, [], 
 ghost use Rattle.std.specs.Bool.{MatchBool};
 ghost use Rattle.faceset.specs.Indexes.{PointsNowhere};
 ghost use Rattle.p21_values.specs.Attributes.{items_in, led_to};
-ghost use Rattle.faceset.specs.Sets.{outline, rows_of, HasBadNumber, HasBadIndex, counted_by};
+ghost use Rattle.faceset.specs.FaceSets.{outline, rows_of, HasBadNumber, HasBadIndex, counted_by};
 ghost use Rattle.faceset.specs.Reaches.{AreReaches};
 ghost use Rattle.faceset.specs.Learnt.{IsLearnt};
 

@@ -1,7 +1,7 @@
 //! How many triangles sets have.
 ghost use Rattle.std.specs.Prelude.{◌≡◌, ◌<◌, ◌≤◌, ◌+◌, ◌∷◌, [], sum_by, IfSome, IfNone};
 ghost use Rattle.p21_values.specs.Attributes.{led_to};
-ghost use Rattle.faceset.specs.Sets.{face_count, triangle_count};
+ghost use Rattle.faceset.specs.FaceSets.{face_count, triangle_count};
 
 use crate::sets::{is_polygonal, outline};
 use p21_table::{Exchange, InstanceRef, ValueRef, Values};
@@ -39,7 +39,7 @@ fn count_faces(exchange: &Exchange, values: &Values<'_>, most: u64) -> Option<u6
 
 /// How many triangles the set has: one for each row, and n - 2 for a face of n corners. None where they are more than `most`. Takes no
 /// memory, and cuts no face.
-#[tactic(auto, unfolding(crate::specs::Sets::faces_of))]
+#[tactic(auto, unfolding(crate::specs::FaceSets::faces_of))]
 pub fn triangle_count(exchange: &Exchange, set: &InstanceRef<'_>, most: u64) -> Option<u64>
     ensures some { IfSome result (λ n. (n ≡ triangle_count exchange.now set.now) × (n ≤ most)) }
     ensures none { IfNone result (most < triangle_count exchange.now set.now) }

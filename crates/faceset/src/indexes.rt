@@ -1,6 +1,6 @@
 //! The indexes of face sets.
 ghost use Rattle.std.specs.Prelude.{◌<◌, ◌^◌, ℕ, suc, pos, IfSome, IfNone};
-ghost use Rattle.bim_text.specs.Values.{whole, SameValue};
+ghost use Rattle.bim_text.specs.ScaledNumbers.{whole, SameValue};
 ghost use Rattle.bim_text.specs.Decimals.{value_of, WritesWhole};
 ghost use Rattle.faceset.specs.Indexes.{PointsAt, PointsNowhere};
 

@@ -1,7 +1,7 @@
 //! Which corners the indexes of a set name.
 ghost use Rattle.std.specs.Prelude.{◌<◌, ◌^◌, length, Some, MatchOption, option_copied};
 ghost use Rattle.bim_model.specs.declared.geometry.Point.{Point};
-ghost use Rattle.faceset.specs.Sets.{NamesPoint, IsCorner, IsMisnamed};
+ghost use Rattle.faceset.specs.FaceSets.{NamesPoint, IsCorner, IsMisnamed};
 
 use crate::indexes::place_of;
 use bim_model::Point;

@@ -1,8 +1,8 @@
 //! How many points lists have.
 ghost use Rattle.std.specs.Prelude.{◌≡◌, ◌<◌, ◌^◌, ℕ, None, length, IfOk, OnOk};
 ghost use Rattle.faceset.specs.Reaches.{PutsKept, kept_in};
-ghost use Rattle.faceset.specs.Counts.{AreCounts};
-ghost use Rattle.faceset.specs.Sets.{spelled_points};
+ghost use Rattle.faceset.specs.PointCounts.{AreCounts};
+ghost use Rattle.faceset.specs.FaceSets.{spelled_points};
 
 use crate::sets::spelled_points;
 use p21_table::{Exchange, InstanceRef};

@@ -3,7 +3,7 @@ ghost use Rattle.std.specs.Prelude.{◌≡◌, ℕ, List, ◌∷◌, [], length,
 ghost use Rattle.bim_model.specs.declared.geometry.Triangle.{Triangle};
 ghost use Rattle.bim_model.specs.Points.{IsGridPoint};
 ghost use Rattle.p21_values.specs.Attributes.{led_to};
-ghost use Rattle.faceset.specs.Sets.{Joined, IsCut, SetTriangles, IsSound, HasStuck, face_count, triangle_count};
+ghost use Rattle.faceset.specs.FaceSets.{Joined, IsCut, SetTriangles, IsSound, HasStuck, face_count, triangle_count};
 ghost use Rattle.faceset.specs.Cuts.{IsLoose};
 
 use crate::faces::{Outcome, cut_face};

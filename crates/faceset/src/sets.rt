@@ -1,6 +1,6 @@
 //! What face sets say.
 ghost use Rattle.std.specs.Prelude.{◌≡◌, IfOk, option_map};
-ghost use Rattle.faceset.specs.Sets.{spelled_points, is_polygonal, is_set, numbering, outline};
+ghost use Rattle.faceset.specs.FaceSets.{spelled_points, is_polygonal, is_set, numbering, outline};
 
 use ifc_instances::Entity;
 use p21_table::{Exchange, InstanceRef, ValueRef, Values};
@@ -28,7 +28,7 @@ pub fn outline<'a>(face: &InstanceRef<'a>) -> Values<'a>
 }
 
 /// The points of a set, as they are spelled.
-#[tactic(auto, unfolding(crate::specs::Sets::points_of))]
+#[tactic(auto, unfolding(crate::specs::FaceSets::points_of))]
 pub(crate) fn spelled_points<'a>(exchange: &'a Exchange, set: &InstanceRef<'_>) -> Values<'a>
     ensures { result ≡ spelled_points exchange.now set.now }
 {
@@ -39,7 +39,7 @@ pub(crate) fn spelled_points<'a>(exchange: &'a Exchange, set: &InstanceRef<'_>) 
 }
 
 /// The numbers of the points that the set's indexes name, where it has them (PnIndex).
-#[tactic(auto, unfolding(crate::specs::Sets::numbering))]
+#[tactic(auto, unfolding(crate::specs::FaceSets::numbering))]
 pub fn numbering<'a>(set: &InstanceRef<'a>) -> Option<Values<'a>>
     ensures { result ≡ numbering set.now }
 {

@@ -1,6 +1,6 @@
 //! The triangles of triangulated sets.
 ghost use Rattle.std.specs.Prelude.{◌∷◌, [], length, All, Any, IfOk, MatchOption, option_copied};
-ghost use Rattle.faceset.specs.Sets.{IsTriangle, AreTriangles, HasThree, IsMisnamed, IsCorner};
+ghost use Rattle.faceset.specs.FaceSets.{IsTriangle, AreTriangles, HasThree, IsMisnamed, IsCorner};
 ghost use Rattle.p21_values.specs.Attributes.{items_in};
 
 use crate::naming::corner;

@@ -16,7 +16,7 @@ use Rattle.book_history.specs.Refusals.{first_of, triangles_if, text_if, journal
 use Rattle.book_history.proofs.States.{state_other, state_own}
 use Rattle.federation_book.specs.declared.project.Project.{Project}
 use Rattle.federation_book.specs.declared.state.State.{State}
-use Rattle.federation_book.specs.Kept.{KeepsProject, KeepStates, IsKept}
+use Rattle.federation_book.specs.KeptProjects.{KeepsProject, KeepStates, IsKept}
 use Rattle.federation_book.proofs.Keeping.{states_push, states_same, rising_push}
 
 pub sum_same : (f g : ℕ → ℕ) (xs : List ℕ) → ((n : ℕ) → f n ≡ g n) → sum_by f xs ≡ sum_by g xs

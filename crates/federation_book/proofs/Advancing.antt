@@ -13,7 +13,7 @@ use Rattle.book_history.specs.Refusals.{first_of, elements_full, too_spread}
 use Rattle.book_history.specs.Weights.{told}
 use Rattle.book_history.proofs.Live.{gone, live_push, live_at, live_length}
 use Rattle.federation_book.specs.declared.project.Project.{Project}
-use Rattle.federation_book.specs.Kept.{KeepsProject}
+use Rattle.federation_book.specs.KeptProjects.{KeepsProject}
 use Rattle.federation_book.proofs.Taking.{left_snoc}
 
 none_some : (v : Version) → None ≡ Some v → ⊥

@@ -11,7 +11,7 @@ use Rattle.bcf_topics.specs.Topics.{new_topic, topic_put}
 use Rattle.bcf_topics.specs.Comments.{new_comment, comment_put}
 use Rattle.bcf_viewpoints.specs.declared.view.ViewBody.{ViewBody}
 use Rattle.bcf_viewpoints.specs.declared.view.ViewIs.{ViewIs}
-use Rattle.bcf_viewpoints.specs.Views.{viewpoint}
+use Rattle.bcf_viewpoints.specs.Viewpoints.{viewpoint}
 use Rattle.book_topics.specs.Boards.{BoardState, next_serial, topic_at, comment_at, topic_added, topic_replaced, topic_removed, comment_added, comment_replaced, comment_removed, view_added, view_removed}
 use Rattle.book_topics.specs.OfClashes.{clash_topic, clash_added}
 use Rattle.book_history.specs.declared.changes.Change.{Change}

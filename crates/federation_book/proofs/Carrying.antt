@@ -9,12 +9,12 @@ use Rattle.bucket_grid.specs.declared.cell.Cell.{Cell}
 use Rattle.bucket_grid.specs.Cells.{IsBucket}
 use Rattle.bucket_grid.specs.Grids.{GridValue}
 use Rattle.bucket_check.specs.Clashes.{is_cell}
-use Rattle.bucket_check.specs.Sets.{SetValue}
+use Rattle.bucket_check.specs.ClashSets.{SetValue}
 use Rattle.bucket_check.proofs.Merged.{same_cell, one_cell}
 use Rattle.clash_delta.specs.declared.slot.Slot.{Slot}
-use Rattle.clash_delta.specs.Slots.{cells_of, bucket_cells, undone_cells, IsBucketOf, IsDone, IsOf}
+use Rattle.clash_delta.specs.BucketProgress.{cells_of, bucket_cells, undone_cells, IsBucketOf, IsDone, IsOf}
 use Rattle.clash_delta.specs.Carried.{IsCarried}
-use Rattle.book_history.specs.Boxes.{boxes_of}
+use Rattle.book_history.specs.VersionBoxes.{boxes_of}
 use Rattle.book_history.specs.Buckets.{buckets_of, buckets_among, is_among}
 use Rattle.book_history.specs.Unmoved.{is_unmoved}
 use Rattle.book_history.specs.Versions.{VersionState, is_done, is_carried, made_after}

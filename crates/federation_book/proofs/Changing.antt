@@ -20,7 +20,7 @@ use Rattle.book_history.specs.Refusals.{first_of, no_model}
 use Rattle.book_history.specs.Requests.{Outcome, Accepted, refused_or, unless, in_project, entry_by, entry_of, version_made}
 use Rattle.book_history.specs.Weights.{told, elements_in, triangles_among}
 use Rattle.book_history.proofs.States.{state_own}
-use Rattle.federation_book.specs.Kept.{unless_refused}
+use Rattle.federation_book.specs.KeptProjects.{unless_refused}
 
 abbrev holding : List NamedModel → List Rule → Version
 holding models rules = record { models = models; rules = rules }

@@ -6,7 +6,7 @@ use Rattle.book_history.specs.History.{state_of, board_of, project_numbers}
 use Rattle.book_history.proofs.States.{within}
 use Rattle.federation_book.specs.declared.project.Project.{Project}
 use Rattle.federation_book.specs.declared.state.State.{State}
-use Rattle.federation_book.specs.Kept.{KeepsProject, KeepStates, IsKept}
+use Rattle.federation_book.specs.KeptProjects.{KeepsProject, KeepStates, IsKept}
 use Rattle.federation_book.proofs.Counting.{sum_more}
 use Rattle.federation_book.proofs.Keeping.{kept_at}
 

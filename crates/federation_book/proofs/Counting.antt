@@ -3,14 +3,14 @@ use Rattle.std.proofs.Common.{◌≡◌, ◌+◌, ◌<◌, ◌≤◌, ℕ, suc, 
 use Rattle.std.proofs.lemmas.Bool.Decides.{eqb_tells}
 use Rattle.std.proofs.lemmas.List.{map-append}
 use Rattle.std.proofs.lemmas.List.Sums.{sum_by_push}
-use Rattle.bucket_grid.specs.Table.{upto}
+use Rattle.bucket_grid.specs.BucketTable.{upto}
 use Rattle.book_history.specs.declared.changes.Entry.{Entry}
 use Rattle.book_history.specs.History.{state_of, live_of, left_in, project_numbers}
 use Rattle.book_history.specs.Refusals.{left_if}
 use Rattle.book_history.specs.Weights.{told}
 use Rattle.book_history.proofs.ToldSums.{told_both}
 use Rattle.federation_book.specs.declared.project.Project.{Project}
-use Rattle.federation_book.specs.Kept.{KeepsProject, KeepStates}
+use Rattle.federation_book.specs.KeptProjects.{KeepsProject, KeepStates}
 use Rattle.federation_book.proofs.Keeping.{kept_at}
 
 numbers_suc : (k : ℕ) → project_numbers (suc k) ≡ project_numbers k ++ (k + 1) ∷ []

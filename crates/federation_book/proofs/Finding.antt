@@ -5,10 +5,10 @@ use Rattle.bcf_topics.specs.declared.comment.CommentBody.{CommentBody}
 use Rattle.bcf_topics.specs.declared.comment.CommentIn.{CommentIn}
 use Rattle.bcf_viewpoints.specs.declared.view.ViewBody.{ViewBody}
 use Rattle.bcf_viewpoints.specs.declared.view.ViewIs.{ViewIs}
-use Rattle.bcf_viewpoints.specs.Views.{viewpoint}
+use Rattle.bcf_viewpoints.specs.Viewpoints.{viewpoint}
 use Rattle.book_turn.specs.declared.object.Stamp.{Stamp}
 use Rattle.book_topics.specs.Boards.{BoardState}
-use Rattle.book_topics.specs.Named.{topic_named, comment_named, view_named, comment_kept}
+use Rattle.book_topics.specs.TopicIdentifiers.{topic_named, comment_named, view_named, comment_kept}
 use Rattle.book_history.specs.declared.changes.Entry.{Entry}
 use Rattle.book_history.specs.declared.book_fault.BookFault.{BookFault}
 use Rattle.book_history.specs.declared.replies.ReplyBody.{ReplyBody}

@@ -9,7 +9,7 @@ use Rattle.bucket_grid.specs.declared.cell.Cell.{Cell}
 use Rattle.bucket_grid.specs.Cells.{IsBucket}
 use Rattle.bucket_grid.specs.Grids.{GridValue}
 use Rattle.bucket_check.specs.Clashes.{is_cell}
-use Rattle.bucket_check.specs.Sets.{SetValue}
+use Rattle.bucket_check.specs.ClashSets.{SetValue}
 use Rattle.book_history.specs.declared.changes.Change.TheVariants.{BucketDone}
 use Rattle.book_history.specs.declared.changes.Entry.{Entry}
 use Rattle.book_history.specs.declared.book_fault.BookFault.{BookFault}
@@ -22,7 +22,7 @@ use Rattle.book_history.specs.Refusals.{first_of, dropped, done_before, left_if,
 use Rattle.book_history.specs.Requests.{Accepted, refused_or, finished}
 use Rattle.book_history.proofs.OneGrid.{HasParts}
 use Rattle.federation_book.specs.declared.project.Project.{Project}
-use Rattle.federation_book.specs.Kept.{KeepsProject}
+use Rattle.federation_book.specs.KeptProjects.{KeepsProject}
 use Rattle.federation_book.proofs.Carrying.{bucket_among}
 use Rattle.federation_book.proofs.Reading.{IsPlaced}
 use Rattle.federation_book.proofs.Taking.{number_at, numbers_length}

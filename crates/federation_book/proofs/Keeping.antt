@@ -6,7 +6,7 @@ use Rattle.book_history.specs.Projects.{untouched, with_change}
 use Rattle.book_history.specs.History.{state_of, IsBefore, IsHistory}
 use Rattle.book_history.proofs.States.{state_other, state_own, nothing_yet}
 use Rattle.federation_book.specs.declared.project.Project.{Project}
-use Rattle.federation_book.specs.Kept.{KeepsProject, KeepStates}
+use Rattle.federation_book.specs.KeptProjects.{KeepsProject, KeepStates}
 
 pub kept_at : (n : ℕ) (ps : List Project) (j : List Entry) (k : ℕ) (d : Project) → KeepStates n ps j → k < length ps → KeepsProject (get_or ps k d) (state_of (n + k) j)
 kept_at n [] j k d kept lt = absurd (omega arith)

@@ -15,7 +15,7 @@ use Rattle.book_history.specs.declared.limits.Limits.{Limits}
 use Rattle.book_history.specs.Refusals.{first_of}
 use Rattle.book_history.specs.Requests.{Outcome, Refusal, Accepted, refused_or, unless, in_project, body_of, entry_by, reply_to}
 use Rattle.federation_book.specs.declared.state.State.{State}
-use Rattle.federation_book.specs.Kept.{KeepStates, IsKept}
+use Rattle.federation_book.specs.KeptProjects.{KeepStates, IsKept}
 use Rattle.federation_book.proofs.Answering.{nothing_added}
 
 pub is_refused : (refusals : List (Option BookFault)) (o : Outcome) (fault : BookFault) → first_of refusals ≡ Some fault → unless refusals o ≡ Refusal fault

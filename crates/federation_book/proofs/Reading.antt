@@ -13,7 +13,7 @@ use Rattle.book_history.specs.Refusals.{first_of, not_yet, dropped}
 use Rattle.book_history.proofs.Live.{gone, live_at, live_set, live_length}
 use Rattle.book_history.proofs.States.{within}
 use Rattle.federation_book.specs.declared.project.Project.{Project}
-use Rattle.federation_book.specs.Kept.{KeepsProject}
+use Rattle.federation_book.specs.KeptProjects.{KeepsProject}
 
 pub newest_is : (p : Project) (s : ProjectState) → KeepsProject p s → newest s ≡ p.newest
 newest_is p s k = let n = k.newest in omega (arith, n)

@@ -6,10 +6,10 @@ use Rattle.std.proofs.lemmas.Bool.{cases_lt, cases_eq}
 use Rattle.std.proofs.lemmas.List.{get_or-map, length-map, get_or_default}
 use Rattle.bucket_grid.specs.declared.cell.Cell.{Cell}
 use Rattle.bucket_check.specs.Clashes.{is_cell}
-use Rattle.bucket_check.specs.Sets.{SetValue}
+use Rattle.bucket_check.specs.ClashSets.{SetValue}
 use Rattle.bucket_check.proofs.Merged.{same_cell, one_cell}
 use Rattle.clash_delta.specs.declared.slot.Slot.{Slot}
-use Rattle.clash_delta.specs.Slots.{cells_of, undone_slots, undone_cells, filled, IsBucketOf, IsDone}
+use Rattle.clash_delta.specs.BucketProgress.{cells_of, undone_slots, undone_cells, filled, IsBucketOf, IsDone}
 use Rattle.book_history.specs.Buckets.{is_among}
 use Rattle.book_history.proofs.Listing.{Below, once}
 

@@ -9,7 +9,7 @@ use Rattle.book_history.specs.History.{live_of, left_in, left_all, project_numbe
 use Rattle.book_history.specs.Weights.{triangles_in, text_in}
 use Rattle.book_history.proofs.States.{nothing_yet}
 use Rattle.federation_book.specs.declared.state.State.{State}
-use Rattle.federation_book.specs.Kept.{KeepStates, IsKept}
+use Rattle.federation_book.specs.KeptProjects.{KeepStates, IsKept}
 use Rattle.federation_book.proofs.Accepting.{sum_same}
 
 no_sum : (xs : List ℕ) → sum_by (λ n. 0) xs ≡ 0

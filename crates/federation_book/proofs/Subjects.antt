@@ -3,7 +3,7 @@ use Rattle.std.proofs.Common.{◌≡◌, ℕ, List, refl}
 use Rattle.bim_model.specs.declared.element.Element.{Element}
 use Rattle.bim_model.specs.declared.rules.Rule.{Rule}
 use Rattle.bim_model.specs.declared.author.Author.{Author}
-use Rattle.bucket_check.specs.Sets.{SetValue}
+use Rattle.bucket_check.specs.ClashSets.{SetValue}
 use Rattle.bcf_topics.specs.declared.topic_body.TopicBody.{TopicBody}
 use Rattle.bcf_topics.specs.declared.comment.CommentIn.{CommentIn}
 use Rattle.bcf_viewpoints.specs.declared.view.ViewBody.{ViewBody}
@@ -11,7 +11,7 @@ use Rattle.book_history.specs.declared.requests.BookRequest.{BookRequest}
 use Rattle.book_history.specs.declared.requests.BookRequest.TheVariants as request
 use Rattle.book_history.specs.declared.requests.Wanted.{Wanted}
 use Rattle.federation_book.specs.declared.subject.Subject.TheVariants.{Projects, Versions, Topics, Comments, Views, Work}
-use Rattle.federation_book.specs.Subjects.{subject_of}
+use Rattle.federation_book.specs.RequestSubjects.{subject_of}
 
 pub projects_only : (r : BookRequest) → subject_of r ≡ Projects
     → (r ≡ request.ListProjects → ⊥)

@@ -8,7 +8,7 @@ use Rattle.std.proofs.lemmas.List.Concat.{length-flat_map}
 use Rattle.std.proofs.lemmas.List.Sums.{sum_by-cons, sum_by_push, get_or-le-sum_by}
 use Rattle.std.proofs.lemmas.Option.{slice_get-get_or, slice_get_past}
 use Rattle.bucket_grid.specs.declared.cell.Cell.{Cell}
-use Rattle.bucket_grid.specs.Table.{upto}
+use Rattle.bucket_grid.specs.BucketTable.{upto}
 use Rattle.book_history.specs.declared.changes.Entry.{Entry}
 use Rattle.book_history.specs.declared.book_fault.BookFault.TheVariants.{NoWork}
 use Rattle.book_history.specs.declared.replies.ReplyBody.TheVariants as reply
@@ -20,7 +20,7 @@ use Rattle.book_history.specs.Requests.{order_at, orders_in, orders_from, orders
 use Rattle.book_history.specs.Weights.{told}
 use Rattle.book_history.proofs.Live.{live_length}
 use Rattle.federation_book.specs.declared.project.Project.{Project}
-use Rattle.federation_book.specs.Kept.{KeepsProject, KeepStates}
+use Rattle.federation_book.specs.KeptProjects.{KeepsProject, KeepStates}
 use Rattle.federation_book.proofs.Accepting.{sum_same}
 use Rattle.federation_book.proofs.Keeping.{kept_at}
 

@@ -1,6 +1,6 @@
-pub mod Kept
-pub mod Making
+pub mod KeptProjects
+pub mod NextVersions
 pub mod AnyTime
 pub mod Done
 pub mod Noting
-pub mod Subjects
+pub mod RequestSubjects

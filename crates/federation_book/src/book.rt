@@ -5,7 +5,7 @@ ghost use Rattle.book_history.specs.Settings.{IsWithinStated};
 ghost use Rattle.book_history.specs.History.{left_all, IsBefore, IsHistory};
 ghost use Rattle.book_history.specs.Requests.{reply_of, added_by};
 ghost use Rattle.book_history.specs.Legal.{IsLegal};
-ghost use Rattle.federation_book.specs.Kept.{IsKept, settings_of};
+ghost use Rattle.federation_book.specs.KeptProjects.{IsKept, settings_of};
 
 use crate::asking::act_on;
 use crate::project::Project;
@@ -21,7 +21,7 @@ pub struct Book {
 
 impl std::marker::Model for Book {
     ghost use Rattle.book_history.specs.Requests.{BookState};
-    ghost use Rattle.federation_book.specs.Kept.{IsKept, settings_of};
+    ghost use Rattle.federation_book.specs.KeptProjects.{IsKept, settings_of};
 
     ghost Value = { BookState };
 

@@ -4,7 +4,7 @@ ghost use Rattle.book_history.specs.Projects.{clash_at};
 ghost use Rattle.book_history.specs.History.{version_of, content_of, IsBefore};
 ghost use Rattle.book_history.specs.Refusals.{no_clash};
 ghost use Rattle.book_history.specs.Requests.{unless, noted, outcome_of};
-ghost use Rattle.federation_book.specs.Kept.{IsKept, settings_of};
+ghost use Rattle.federation_book.specs.KeptProjects.{IsKept, settings_of};
 ghost use Rattle.federation_book.specs.Done.{IsDone};
 ghost use Rattle.federation_book.specs.Noting.{AreGuids};
 

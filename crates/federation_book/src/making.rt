@@ -12,8 +12,8 @@ ghost use Rattle.book_history.specs.History.{state_of, IsBefore};
 ghost use Rattle.book_history.specs.Weights.{told, text_of, triangles_of, elements_in, triangles_among};
 ghost use Rattle.book_history.specs.Refusals.{first_of, full};
 ghost use Rattle.book_history.specs.Requests.{in_project, changed, removed, body_of, entry_by, entry_of, version_made};
-ghost use Rattle.federation_book.specs.Kept.{IsKept, settings_of, unless_refused};
-ghost use Rattle.federation_book.specs.Making.{IsNext, IsGridWithin};
+ghost use Rattle.federation_book.specs.KeptProjects.{IsKept, settings_of, unless_refused};
+ghost use Rattle.federation_book.specs.NextVersions.{IsNext, IsGridWithin};
 
 use crate::state::State;
 use crate::version::KeptVersion;

@@ -4,7 +4,7 @@ ghost use Rattle.book_history.specs.History.{state_of, board_of, IsBefore};
 ghost use Rattle.book_history.specs.Weights.{text_of};
 ghost use Rattle.book_history.specs.Refusals.{first_of, not_noted};
 ghost use Rattle.book_history.specs.Requests.{noted};
-ghost use Rattle.federation_book.specs.Kept.{IsKept, settings_of};
+ghost use Rattle.federation_book.specs.KeptProjects.{IsKept, settings_of};
 ghost use Rattle.federation_book.specs.Done.{IsDone};
 ghost use Rattle.federation_book.specs.Noting.{clash_of, IsNote, IsFurther, Fits, IsApplied};
 

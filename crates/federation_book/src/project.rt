@@ -5,7 +5,7 @@ ghost use Rattle.book_history.specs.Versions.{VersionState, live_in};
 ghost use Rattle.book_history.specs.Projects.{untouched};
 ghost use Rattle.book_history.specs.History.{left_in};
 ghost use Rattle.book_history.specs.Weights.{told};
-ghost use Rattle.federation_book.specs.Kept.{KeepsProject};
+ghost use Rattle.federation_book.specs.KeptProjects.{KeepsProject};
 
 use crate::version::KeptVersion;
 use book_topics::Board;

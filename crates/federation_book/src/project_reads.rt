@@ -3,7 +3,7 @@ ghost use Rattle.std.specs.Prelude.{◌≡◌, ◌≤◌, ◌<◌, ◌+◌, ◌^
 ghost use Rattle.book_history.specs.Projects.{ProjectState};
 ghost use Rattle.book_history.specs.Refusals.{project_of, wanted_in, first_of, not_yet, dropped};
 ghost use Rattle.book_history.specs.Requests.{in_project, version_read, clashes_read, body_of};
-ghost use Rattle.federation_book.specs.Kept.{KeepsProject, IsKept, settings_of};
+ghost use Rattle.federation_book.specs.KeptProjects.{KeepsProject, IsKept, settings_of};
 
 use crate::project::Project;
 use crate::state::State;

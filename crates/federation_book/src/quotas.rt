@@ -2,7 +2,7 @@
 ghost use Rattle.std.specs.Prelude.{◌≡◌, ◌<◌, ◌^◌, length};
 ghost use Rattle.book_history.specs.History.{topics_in, comments_in, views_in};
 ghost use Rattle.book_history.specs.Refusals.{first_of, topics_full, comments_full, views_full, too_many};
-ghost use Rattle.federation_book.specs.Kept.{IsKept, settings_of};
+ghost use Rattle.federation_book.specs.KeptProjects.{IsKept, settings_of};
 
 use crate::state::State;
 use book_history::{BookFault, Change};

@@ -6,7 +6,7 @@ ghost use Rattle.book_history.specs.Projects.{with_change};
 ghost use Rattle.book_history.specs.History.{state_of, board_of, newest_of, left_in, left_all, horizon_of, project_numbers};
 ghost use Rattle.book_history.specs.Weights.{told, text_of, triangles_of};
 ghost use Rattle.book_history.specs.Refusals.{first_of, project_of, triangles_if, text_if, journal_if, left_if, store_full};
-ghost use Rattle.federation_book.specs.Kept.{KeepsProject, IsKept, settings_of};
+ghost use Rattle.federation_book.specs.KeptProjects.{KeepsProject, IsKept, settings_of};
 
 use crate::project::{Project, left_in};
 use crate::project_reads::project_of;

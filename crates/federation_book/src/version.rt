@@ -30,7 +30,7 @@ pub struct KeptVersion {
 impl Model for KeptVersion {
     ghost use Rattle.std.specs.Prelude.{◌≡◌, IfSome};
     ghost use Rattle.bim_model.specs.Snapshots.{Version};
-    ghost use Rattle.clash_delta.specs.Slots.{undone_cells, IsOf};
+    ghost use Rattle.clash_delta.specs.BucketProgress.{undone_cells, IsOf};
     ghost use Rattle.book_history.specs.Versions.{VersionState};
 
     ghost Value = { VersionState };

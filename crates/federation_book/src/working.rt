@@ -5,7 +5,7 @@ ghost use Rattle.book_history.specs.Orders.{OrderValue};
 ghost use Rattle.book_history.specs.History.{left_in, IsBefore};
 ghost use Rattle.book_history.specs.Requests.{orders_from, all_orders, order_for, finished, body_of, entry_by};
 ghost use Rattle.book_history.specs.Legal.{IsGiven};
-ghost use Rattle.federation_book.specs.Kept.{IsKept, settings_of};
+ghost use Rattle.federation_book.specs.KeptProjects.{IsKept, settings_of};
 
 use crate::project::{Project, left_in};
 use crate::project_reads::{dropped, place_of};

@@ -1,7 +1,7 @@
 //! Triangles and elements within a distance, by hand and by another program.
 ghost use Rattle.std.specs.Prelude.{◌≤◌, ◌≡◌, ◌<◌, All, IfOk};
 ghost use Rattle.bim_model.specs.Points.{IsInGrid};
-ghost use Rattle.tri_exact.specs.Limits.{distance_limit};
+ghost use Rattle.tri_exact.specs.ProductLimits.{distance_limit};
 ghost use Rattle.clearance.specs.Near.{ElementInGrid};
 
 use crate::sample_points::point;

@@ -1,7 +1,7 @@
 //! Predicates on points, edges and triangles, by hand.
 ghost use Rattle.std.specs.Prelude.{◌≤◌, unsigned_abs};
 ghost use Rattle.bim_model.specs.Points.{grid_limit};
-ghost use Rattle.tri_exact.specs.Places.{IsPoint};
+ghost use Rattle.tri_exact.specs.GridVectors.{IsPoint};
 
 use bim_model::GRID_LIMIT;
 use tri_exact::{

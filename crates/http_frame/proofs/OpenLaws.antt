@@ -6,7 +6,7 @@ use Rattle.http_frame.specs.declared.types.FrameFault.{FrameFault}
 use Rattle.http_frame.specs.declared.size_line.SizeSpot.TheVariants.{Digits, Whole, Wrong}
 use Rattle.http_frame.specs.Heads.{chunked}
 use Rattle.http_frame.specs.Bodies.{ReadsSize, ReadsChunk, ReadsChunks, room_left, ReadsLast, ReadsTrailers, ReadsBody, LacksEnd, FailsInChunk, FailsInBody}
-use Rattle.http_frame.specs.Sizes.{size_run}
+use Rattle.http_frame.specs.ChunkSizes.{size_run}
 use Rattle.http_frame.proofs.BodyLaws.{size_unique, never_now, chunks_unique, fails_is_terminal, last_is_terminal}
 use Rattle.http_frame.proofs.SizeLaws.{right_is_whole, not_wrong_may_be_right}
 

@@ -10,7 +10,7 @@ use Rattle.http_frame.specs.declared.chunks.Part.{Part}
 use Rattle.http_frame.specs.declared.chunks.Part.TheVariants.{Size, Data, Lf, Trailers}
 use Rattle.http_frame.specs.Heads.{chunked, most_head, front}
 use Rattle.http_frame.specs.Bodies.{ReadsSize, room_left, ReadsLast, ReadsBody, HasBadTrailer, LacksEnd, FailsInChunk, FailsInBody}
-use Rattle.http_frame.specs.Sizes.{size_run}
+use Rattle.http_frame.specs.ChunkSizes.{size_run}
 use Rattle.http_frame.specs.Chunks.{IsInLine, IsInChunk, IsPart, IsReading}
 use Rattle.http_frame.proofs.BodyLaws.{size_unique, never_now, same_cut, last_unique, last_is_no_chunk, over_is_not_last, lacks_is_not_last}
 use Rattle.http_frame.proofs.OpenLaws.{IsOpenAt, open_no_body, open_no_fault, size_open, data_open}

@@ -25,7 +25,7 @@ use Rattle.http_frame.specs.declared.chunks.ChunkStep.TheVariants as to
 use Rattle.http_frame.specs.Heads.{chunked}
 use Rattle.http_frame.specs.Bodies.{ReadsSize, ReadsChunk, ReadsChunks, room_left, ReadsLast, ReadsBody, FailsInBody}
 use Rattle.http_frame.specs.Scan as scan
-use Rattle.http_frame.specs.Sizes.{size_step, size_run}
+use Rattle.http_frame.specs.ChunkSizes.{size_step, size_run}
 use Rattle.http_frame.specs.Chunks.{value_step, size_turn, chunk_step, trailer_turn, data_left, hex_front, IsInLine, IsInChunk, IsInTrailers, IsReading}
 use Rattle.http_frame.proofs.BodyLaws.{size_more, chunks_more, last_more}
 use Rattle.http_frame.proofs.HeadLaws.{take_past}

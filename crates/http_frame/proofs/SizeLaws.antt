@@ -9,7 +9,7 @@ use Rattle.httparse.specs.Grammar.{AllPass, is_ows, is_extension_byte, print_ext
 use Rattle.http_frame.specs.declared.size_line.SizeSpot.{SizeSpot}
 use Rattle.http_frame.specs.declared.size_line.SizeSpot.TheVariants.{Digits, Extension, Cr, Whole, Wrong}
 use Rattle.http_frame.specs.Bodies.{ReadsSize, NeverHasSize}
-use Rattle.http_frame.specs.Sizes.{size_step, size_run}
+use Rattle.http_frame.specs.ChunkSizes.{size_step, size_run}
 
 pub size_run-append : (s : SizeSpot) (xs ys : List ℕ) → size_run s (xs ++ ys) ≡ size_run (size_run s xs) ys
 size_run-append s [] ys = refl

@@ -9,7 +9,7 @@ use Rattle.http_frame.specs.declared.types.FrameError.TheVariants.{Fault, Memory
 use Rattle.http_frame.specs.Heads.{Framing, sized, most_head, front, framing, most_body, HasOtherVersion, IsHopeless, HasGoodHead}
 use Rattle.http_frame.specs.Bodies.{ReadsBody, FailsInBody}
 use Rattle.http_frame.specs.Events.{Begins, Fails, Asks, Event, continue, request, Ending, IsRest, IsTold, Spells}
-use Rattle.http_frame.specs.Steps.{Act, fed, answered, Runs, given, told_by}
+use Rattle.http_frame.specs.FramerSteps.{Act, fed, answered, Runs, given, told_by}
 use Rattle.http_frame.proofs.HeadLaws.{head_is_some, good_unique, good_is_no_fault}
 use Rattle.http_frame.proofs.EventLaws.{begins_unique, begins_stays, asks_stays, begins_settles, told_not, ends_not}
 

@@ -21,7 +21,7 @@ use Rattle.http_frame.specs.declared.chunks.Taken.{Taken}
 use Rattle.http_frame.specs.Heads.{chunked, line_at, most_head}
 use Rattle.http_frame.specs.Bodies.{ReadsSize, ReadsChunks, room_left, ReadsLast, ReadsBody, FailsInBody}
 use Rattle.http_frame.specs.Scan as scan
-use Rattle.http_frame.specs.Sizes.{size_step, size_run}
+use Rattle.http_frame.specs.ChunkSizes.{size_step, size_run}
 
 -- ---- what a byte does
 

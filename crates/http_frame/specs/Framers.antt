@@ -3,8 +3,8 @@ use Rattle.std.specs.Prelude.{ℕ, Bool, List, Result}
 use Rattle.http_frame.specs.declared.types.FrameStep.{FrameStep}
 use Rattle.http_frame.specs.declared.types.FrameError.{FrameError}
 use Rattle.http_frame.specs.declared.framer.Framer.{Framer}
-use Rattle.http_frame.specs.Steps.{Answers}
-use Rattle.http_frame.specs.Stages.{StandsAt}
+use Rattle.http_frame.specs.FramerSteps.{Answers}
+use Rattle.http_frame.specs.FramerStages.{StandsAt}
 
 -- the framer stands for the bytes; told: the Continue of the first request was answered
 unfoldable pub Stands : Framer → List ℕ → Bool → Type 0

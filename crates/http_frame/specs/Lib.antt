@@ -4,12 +4,12 @@ pub mod Events
 pub mod Judged
 pub mod Scan
 pub mod Watched
-pub mod Steps
-pub mod Sizes
+pub mod FramerSteps
+pub mod ChunkSizes
 pub mod Facts
-pub mod Lines
+pub mod HeadLines
 pub mod Told
-pub mod Seen
+pub mod RequestHeads
 pub mod Chunks
-pub mod Stages
+pub mod FramerStages
 pub mod Framers

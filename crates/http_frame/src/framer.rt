@@ -1,7 +1,7 @@
 //! The framer: requests from bytes, in whatever pieces these come.
 ghost use Rattle.std.specs.Prelude.{◌≡◌, ◌≤◌, ◌↔◌, ℕ, List, [], ◌++◌, Bool, false, IsTrue, length, drop, IfOk, OnOk, OnErr};
 ghost use Rattle.std.proofs.Props.{props};
-ghost use Rattle.http_frame.specs.Stages.{IsSafe, IsSafe-prop, Keeps, Grows, is_failed, is_before};
+ghost use Rattle.http_frame.specs.FramerStages.{IsSafe, IsSafe-prop, Keeps, Grows, is_failed, is_before};
 
 use crate::field_lines::{Spot, walk_on};
 use crate::framer_steps::step;

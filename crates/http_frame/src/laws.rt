@@ -5,7 +5,7 @@ ghost use Rattle.http_frame.specs.declared.types.HttpRequest.{HttpRequest};
 ghost use Rattle.http_frame.specs.declared.types.FrameFault.{FrameFault};
 ghost use Rattle.http_frame.specs.Heads.{first_line};
 ghost use Rattle.http_frame.specs.Events.{Event, Ending, bad, Begins, Fails, IsRest, IsTold, Spells};
-ghost use Rattle.http_frame.specs.Steps.{Act, Runs, given, told_by};
+ghost use Rattle.http_frame.specs.FramerSteps.{Act, Runs, given, told_by};
 
 /// Bytes spell one list of events and end in one way.
 pub fn bytes_have_one_reading()

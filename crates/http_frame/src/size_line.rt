@@ -1,6 +1,6 @@
 //! The line before a chunk, byte by byte.
 ghost use Rattle.std.specs.Prelude.{◌≡◌, ℕ, List};
-ghost use Rattle.http_frame.specs.Sizes.{size_step, size_run};
+ghost use Rattle.http_frame.specs.ChunkSizes.{size_step, size_run};
 
 /// Where in the line before a chunk the next byte stands.
 #[derive(Clone, Copy, Debug, PartialEq, Eq)]

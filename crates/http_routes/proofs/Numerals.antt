@@ -6,7 +6,7 @@ use Rattle.std.specs.Str.{all_ascii_digits}
 use Rattle.std.specs.Str.Parse.{ParsesUnsigned, digits_value}
 use Rattle.std.proofs.lemmas.Bool.{and_parts, leb-true}
 use Rattle.std.proofs.lemmas.Str.Parse.{IsNumeralModel, numerals_by_value, parse_digits, tells_all_ascii_digits, digits_value_short}
-use Rattle.http_routes.specs.Numbers.{is_number, number_in}
+use Rattle.http_routes.specs.PathNumbers.{is_number, number_in}
 
 digits_are : (text : List ℕ) → all_ascii_digits text ≡ list_all is_ascii_digit text
 digits_are [] = refl

@@ -11,7 +11,7 @@ use Rattle.matchit.specs.Router.{RouteOf}
 use Rattle.matchit.proofs.OnLiterals.{matchit_on_literals}
 use Rattle.http_routes.specs.declared.paths.RoutePath.{RoutePath}
 use Rattle.http_routes.specs.Paths.{table}
-use Rattle.http_routes.specs.Places.{parts_by}
+use Rattle.http_routes.specs.Resources.{parts_by}
 use Rattle.http_routes.proofs.Texts.{ascii}
 use Rattle.http_routes.proofs.Routers.{AllKeys, found}
 

@@ -6,8 +6,8 @@ use Rattle.http_routes.specs.declared.paths.RoutePath.TheVariants.{OfTopic, Clas
 use Rattle.http_routes.specs.declared.paths.TopicRow.TheVariants as topic
 use Rattle.http_routes.specs.Paths.{table, has_method}
 use Rattle.http_routes.specs.Targets.{split_target, from_slash}
-use Rattle.http_routes.specs.Forms.{identifier_in}
-use Rattle.http_routes.specs.Places.{place_of}
+use Rattle.http_routes.specs.PathParameters.{identifier_in}
+use Rattle.http_routes.specs.Resources.{place_of}
 
 a_host_alone_names_nothing : place_of (codes "http://h?/") ≡ None
 unfolding place_of split_target from_slash table matchit_on_literals

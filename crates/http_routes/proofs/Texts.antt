@@ -6,7 +6,7 @@ use Rattle.std.specs.Str.{IsAscii, IsUtf8}
 use Rattle.std.proofs.lemmas.Str.{IsUtf8-from_ascii}
 use Rattle.std.proofs.lemmas.Grind.{common_steps}
 use Rattle.uuid.specs.Text.{parsed}
-use Rattle.http_routes.specs.Forms.{number_of_bytes, identifier_in}
+use Rattle.http_routes.specs.PathParameters.{number_of_bytes, identifier_in}
 
 none_by : (o : Option (List ℕ)) → (((u : List ℕ) × (o ≡ Some u)) → ⊥) → option_map number_of_bytes o ≡ None
 none_by None never = refl

@@ -1,6 +1,6 @@
 pub mod Paths
 pub mod Targets
-pub mod Numbers
-pub mod Forms
-pub mod Places
+pub mod PathNumbers
+pub mod PathParameters
+pub mod Resources
 pub mod Queries

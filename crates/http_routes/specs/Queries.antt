@@ -11,7 +11,7 @@ use Rattle.http_routes.specs.declared.query.PageGiven.{PageGiven}
 use Rattle.http_routes.specs.declared.query.PageError.{PageError}
 use Rattle.http_routes.specs.declared.query.PageError.TheVariants.{Bad, Memory}
 use Rattle.http_routes.specs.declared.query.TheConstants.{MOST_PAIRS}
-use Rattle.http_routes.specs.Numbers.{number_in, number_within}
+use Rattle.http_routes.specs.PathNumbers.{number_in, number_within}
 
 -- the text that a name or a value stands for
 abbrev pub form_text : List ℕ → List ℕ

@@ -3,15 +3,15 @@ ghost use Rattle.std.specs.Prelude.{◌≡◌, option_map};
 ghost use Rattle.std.specs.List.{list_all};
 ghost use Rattle.std.specs.Char.{is_ascii};
 ghost use Rattle.matchit.specs.Params.{AllText};
-ghost use Rattle.http_routes.specs.Forms.{identifier_in, wanted_in};
-ghost use Rattle.http_routes.specs.Places.{place_lent, parts_of, id_in, name_in, version_in, clash_in, topic_place, in_topic, in_clashes, place_for, place_by};
+ghost use Rattle.http_routes.specs.PathParameters.{identifier_in, wanted_in};
+ghost use Rattle.http_routes.specs.Resources.{place_lent, parts_of, id_in, name_in, version_in, clash_in, topic_place, in_topic, in_clashes, place_for, place_by};
 
 use crate::number_forms::number_in;
 use crate::paths::{RoutePath, TopicRow, is_same};
 use crate::resource::{Resource, TopicPlace};
+use bim_model::is_model_name;
 use book_history::Wanted;
 use matchit::Params;
-use model_names::is_model_name;
 use uuid::Uuid;
 
 /// Whether a path has ASCII characters alone.
@@ -21,7 +21,7 @@ pub fn are_ascii(path: &[u8]) -> bool
     path.iter().all(|byte| byte.is_ascii())
 }
 
-#[tactic(auto, unfolding(crate::specs::Forms::identifier_in), using(crate::proofs::Texts::none_in))]
+#[tactic(auto, unfolding(crate::specs::PathParameters::identifier_in), using(crate::proofs::Texts::none_in))]
 fn identifier_in(text: &str) -> Option<u128>
     ensures { result ≡ identifier_in text.now }
 {

@@ -3,7 +3,7 @@ ghost use Rattle.std.specs.Prelude.{◌≡◌, [], ◌∷◌, bytes_eq, IfOk, Ma
 ghost use Rattle.form_urlencoded.specs.Parse.{raw_pairs_left};
 ghost use Rattle.form_urlencoded.specs.Form.{raw_pairs};
 ghost use Rattle.http_routes.specs.Queries.{form_text, values_given, mode_in, grid_asked, if_new, with_first, with_count, with_pair, given_by, nothing_given, page_asked, IsAsMeant};
-ghost use Rattle.http_routes.specs.Numbers.{number_in};
+ghost use Rattle.http_routes.specs.PathNumbers.{number_in};
 
 use crate::number_forms::{number_in, number_within};
 use crate::paths::is_same;

@@ -66,7 +66,7 @@ pub enum TopicPlace {
 
 impl TopicPlace {
     ghost use Rattle.std.specs.Prelude.{◌≡◌};
-    ghost use Rattle.http_routes.specs.Places.{topic_row_of};
+    ghost use Rattle.http_routes.specs.Resources.{topic_row_of};
 
     /// The row of the table that it is on.
     pub fn row(&self) -> TopicRow
@@ -84,7 +84,7 @@ impl TopicPlace {
 
 impl Resource<'_> {
     ghost use Rattle.std.specs.Prelude.{◌≡◌};
-    ghost use Rattle.http_routes.specs.Places.{place_lent, row_of, project_at, part_at};
+    ghost use Rattle.http_routes.specs.Resources.{place_lent, row_of, project_at, part_at};
 
     /// The row of the table that it is on.
     pub fn row(&self) -> RoutePath

@@ -3,7 +3,7 @@ ghost use Rattle.std.specs.Prelude.{◌≡◌, OnOk, option_map};
 ghost use Rattle.std.specs.Str.{IsAscii};
 ghost use Rattle.matchit.specs.Seek.{first};
 ghost use Rattle.http_routes.specs.Paths.{table, with_row};
-ghost use Rattle.http_routes.specs.Places.{place_lent, place_on, place_at, place_of};
+ghost use Rattle.http_routes.specs.Resources.{place_lent, place_on, place_at, place_of};
 
 use crate::forms::{are_ascii, resource_by};
 use crate::paths::{RoutePath, TopicRow, address_of};
@@ -100,7 +100,7 @@ impl Routes {
     }
 
     /// What a target names, where it names something.
-    #[tactic(auto, unfolding(crate::specs::Places::place_of))]
+    #[tactic(auto, unfolding(crate::specs::Resources::place_of))]
     pub fn resource_of<'t>(&self, target: &'t [u8]) -> Option<Resource<'t>>
         ensures { option_map place_lent result ≡ place_of target.now }
     {

@@ -4,7 +4,7 @@ use Rattle.std.proofs.lemmas.List.{map-append}
 use Rattle.std.proofs.lemmas.List.Elements.{filter-append}
 use Rattle.p21_values.specs.declared.value.Value21.{Value21}
 use Rattle.p21_values.specs.declared.value.Instance.{Instance}
-use Rattle.ifc_schema.specs.Bodies.{is_body_representation}
+use Rattle.ifc_schema.specs.BodyRepresentations.{is_body_representation}
 use Rattle.ifc_instances.proofs.LedTo.{led_append}
 use Rattle.p21_values.specs.Attributes.{led_to}
 use Rattle.ifc_elements.specs.Items.{bodies_among}

@@ -20,16 +20,16 @@ use Rattle.bim_model.specs.declared.upload.Mode.{Mode}
 use Rattle.p21_values.specs.declared.value.Value21.{Value21}
 use Rattle.p21_values.specs.declared.value.Instance.{Instance}
 use Rattle.p21_values.specs.Values.{reference_of, is_absent}
-use Rattle.p21_values.specs.Looking.{look}
+use Rattle.p21_values.specs.InstanceLookup.{look}
 use Rattle.ifc_units.specs.declared.scale.Scale.{Scale}
 use Rattle.placement.specs.declared.frame.Frame.{Frame}
 use Rattle.placement.specs.Placed.{AreFrames}
-use Rattle.faceset.specs.Sets.{Joined}
+use Rattle.faceset.specs.FaceSets.{Joined}
 use Rattle.ifc_elements.specs.Items.{body_items, item_count}
 use Rattle.ifc_elements.specs.Sound.{IsOut}
 use Rattle.ifc_elements.specs.Surfaces.{ItemSurface, moved, placed_by, IsSurface, IsBeyond}
 use Rattle.ifc_elements.specs.Framed.{AllFramed}
-use Rattle.ifc_elements.specs.Making.{IsStanding, IsReady, IsFrameOf, IsNearSurface, IsNearElement, Lacks, LacksAt, IsFirstLacking}
+use Rattle.ifc_elements.specs.ElementReadiness.{IsStanding, IsReady, IsFrameOf, IsNearSurface, IsNearElement, Lacks, LacksAt, IsFirstLacking}
 use Rattle.ifc_elements.specs.declared.lack.Lack.{Lack}
 use Rattle.ifc_elements.specs.declared.lack.Lack.TheVariants.{Beyond, Unready}
 use Rattle.p21_values.proofs.ValueLemmas.{one}

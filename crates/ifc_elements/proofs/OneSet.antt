@@ -5,14 +5,14 @@ use Rattle.bim_model.specs.declared.geometry.Point.{Point}
 use Rattle.bim_model.specs.declared.geometry.Triangle.{Triangle}
 use Rattle.bim_model.specs.declared.upload.Mode.{Mode}
 use Rattle.p21_values.specs.declared.value.Instance.{Instance}
-use Rattle.p21_values.specs.Looking.{look}
+use Rattle.p21_values.specs.InstanceLookup.{look}
 use Rattle.ifc_units.specs.declared.scale.Scale.{Scale}
 use Rattle.ifc_units.specs.Lengths.{ArePoints}
 use Rattle.ifc_units.proofs.PointFacts.{one_points}
 use Rattle.placement.specs.declared.frame.Frame.{Frame}
 use Rattle.placement.specs.Operators.{OperatorFrame}
 use Rattle.placement.proofs.Operating.{one_frame}
-use Rattle.faceset.specs.Sets.{points_of, listed_in, spelled_points, SetTriangles, HasStuck}
+use Rattle.faceset.specs.FaceSets.{points_of, listed_in, spelled_points, SetTriangles, HasStuck}
 use Rattle.faceset.proofs.Joins.{joined_same}
 use Rattle.faceset.proofs.Unique.{set_triangles_same, never_stuck}
 use Rattle.p21_values.specs.Attributes.{reference_at}

@@ -7,7 +7,7 @@ use Rattle.bim_model.specs.declared.upload.Mode.{Mode}
 use Rattle.p21_values.specs.declared.value.Value21.{Value21}
 use Rattle.p21_values.specs.declared.value.Instance.{Instance}
 use Rattle.p21_values.specs.Values.{reference_of, is_absent}
-use Rattle.ifc_instances.specs.Looking.{some_passes}
+use Rattle.ifc_instances.specs.EntityLookup.{some_passes}
 use Rattle.ifc_units.specs.declared.scale.Scale.{Scale}
 use Rattle.placement.specs.declared.frame.Frame.{Frame}
 use Rattle.placement.specs.Placed.{FrameOf}

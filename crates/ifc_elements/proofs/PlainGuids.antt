@@ -2,12 +2,12 @@
 use Rattle.std.proofs.Common.{◌≡◌, ℕ, List, Option, Some, sym, ap, ◌∙◌, subst, option_map, option_and_then}
 use Rattle.std.specs.List.{slice_get}
 use Rattle.bim_model.specs.Guids.{IsGuid}
-use Rattle.bim_text.specs.Texts.{text_of_spelling}
+use Rattle.bim_text.specs.TextSpellings.{text_of_spelling}
 use Rattle.bim_text.proofs.PlainGuids.{guid_said}
 use Rattle.p21_values.specs.declared.value.Instance.{Instance}
 use Rattle.p21_values.specs.declared.value.Value21.{Value21}
 use Rattle.p21_values.specs.Values.{words_of}
-use Rattle.ifc_elements.specs.Texts.{guid_of}
+use Rattle.ifc_elements.specs.ElementTexts.{guid_of}
 
 guid_spelled : (bs : List ℕ) → IsGuid bs → text_of_spelling bs ≡ bs
 guid_spelled bs guid = guid_said bs guid.1

@@ -13,12 +13,12 @@ use Rattle.bim_model.specs.declared.geometry.Point.{Point}
 use Rattle.bim_model.specs.declared.geometry.Triangle.{Triangle}
 use Rattle.p21_values.specs.declared.value.Value21.{Value21}
 use Rattle.p21_values.specs.declared.value.Instance.{Instance}
-use Rattle.p21_values.specs.Looking.{look}
+use Rattle.p21_values.specs.InstanceLookup.{look}
 use Rattle.ifc_units.specs.declared.scale.Scale.{Scale}
 use Rattle.ifc_units.specs.Lengths.{IsPoint, ArePoints}
 use Rattle.ifc_units.proofs.PointFacts.{point_near, one_points}
 use Rattle.p21_values.specs.Attributes.{listed, reference_at}
-use Rattle.faceset.specs.Sets.{points_of, listed_in, spelled_points, SetTriangles, IsSound, HasStuck, triangle_count}
+use Rattle.faceset.specs.FaceSets.{points_of, listed_in, spelled_points, SetTriangles, IsSound, HasStuck, triangle_count}
 use Rattle.faceset.proofs.Held.{set_holds}
 use Rattle.faceset.proofs.Zips.{zip_all}
 use Rattle.placement.proofs.Walking.{same_or}

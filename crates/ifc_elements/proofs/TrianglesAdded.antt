@@ -16,13 +16,13 @@ use Rattle.bim_model.specs.declared.upload.Mode.{Mode}
 use Rattle.bim_model.specs.declared.geometry.Triangle.{Triangle}
 use Rattle.p21_values.specs.declared.value.Value21.{Value21}
 use Rattle.p21_values.specs.declared.value.Instance.{Instance}
-use Rattle.p21_values.specs.Looking.{look}
+use Rattle.p21_values.specs.InstanceLookup.{look}
 use Rattle.p21_values.specs.Values.{reference_of}
 use Rattle.p21_values.proofs.PlaceLemmas.{some_instance}
 use Rattle.ifc_units.specs.declared.scale.Scale.{Scale}
 use Rattle.placement.specs.declared.frame.Frame.{Frame}
 use Rattle.placement.specs.Operators.{OperatorFrame}
-use Rattle.faceset.specs.Sets.{Joined, triangle_count}
+use Rattle.faceset.specs.FaceSets.{Joined, triangle_count}
 use Rattle.ifc_instances.proofs.LedTo.{led_append, led_one}
 use Rattle.faceset.proofs.Joins.{joined_one, joined_append}
 use Rattle.p21_values.specs.Attributes.{reference_at, led_to}

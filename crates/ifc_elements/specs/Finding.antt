@@ -1,7 +1,7 @@
 -- Instances by their numbers. A world is the list of a file's instances.
 use Rattle.std.specs.Prelude.{◌≡◌, ℕ, List, map, Some}
 use Rattle.p21_values.specs.declared.value.Instance.{Instance}
-use Rattle.p21_values.specs.Looking.{look}
+use Rattle.p21_values.specs.InstanceLookup.{look}
 
 -- the instance of that number, and it holds of it
 pub record Finds (world : List Instance) (id : ℕ) (P : Instance → Type 0) : Type 0 where

@@ -3,11 +3,11 @@ use Rattle.std.specs.Prelude.{ℕ, ◌||◌, Bool, List, [], filter, flat_map, s
 use Rattle.p21_values.specs.declared.value.Value21.{Value21}
 use Rattle.p21_values.specs.declared.value.Instance.{Instance}
 use Rattle.ifc_instances.specs.declared.entity.Entity.TheVariants.{MappedItem}
-use Rattle.p21_values.specs.Looking.{look}
-use Rattle.ifc_instances.specs.Looking.{is_a}
-use Rattle.ifc_schema.specs.Bodies.{is_body_representation}
+use Rattle.p21_values.specs.InstanceLookup.{look}
+use Rattle.ifc_instances.specs.EntityLookup.{is_a}
+use Rattle.ifc_schema.specs.BodyRepresentations.{is_body_representation}
 use Rattle.p21_values.specs.Attributes.{listed, target_at, led_to}
-use Rattle.faceset.specs.Sets.{is_set, triangle_count}
+use Rattle.faceset.specs.FaceSets.{is_set, triangle_count}
 
 -- the list of an instance at a place, where there is an instance
 abbrev pub listed_by : Option Instance → ℕ → List Value21

@@ -2,11 +2,11 @@ pub mod Elements
 pub mod Finding
 pub mod Framed
 pub mod Items
-pub mod Making
-pub mod Names
+pub mod ElementReadiness
+pub mod StoreyNames
 pub mod PointTables
 pub mod Shapes
 pub mod Sound
 pub mod Storeys
 pub mod Surfaces
-pub mod Texts
+pub mod ElementTexts

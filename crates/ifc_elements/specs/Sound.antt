@@ -11,13 +11,13 @@ use Rattle.bim_model.specs.Boxes.{corners_of}
 use Rattle.bim_model.specs.Models.{IsInReach}
 use Rattle.p21_values.specs.declared.value.Value21.{Value21}
 use Rattle.p21_values.specs.declared.value.Instance.{Instance}
-use Rattle.p21_values.specs.Looking.{look}
+use Rattle.p21_values.specs.InstanceLookup.{look}
 use Rattle.p21_values.specs.Values.{reference_of}
 use Rattle.ifc_units.specs.declared.scale.Scale.{Scale}
 use Rattle.placement.specs.declared.frame.Frame.{Frame}
 use Rattle.placement.specs.Frames.{carried, IsFrame, AreWithin, most}
 use Rattle.placement.specs.Operators.{OperatorFrame}
-use Rattle.faceset.specs.Sets as sets
+use Rattle.faceset.specs.FaceSets as sets
 use Rattle.ifc_elements.specs.Finding.{Finds}
 use Rattle.p21_values.specs.Attributes.{reference_at}
 use Rattle.ifc_elements.specs.PointTables.{ListsPoints}

@@ -2,7 +2,7 @@
 use Rattle.std.specs.Prelude.{◌≡◌, ℕ, List, Option, Some, None}
 use Rattle.p21_values.specs.declared.value.Instance.{Instance}
 use Rattle.spatial_tree.specs.Trees.{StoreyOf}
-use Rattle.ifc_elements.specs.Texts.{name_at}
+use Rattle.ifc_elements.specs.ElementTexts.{name_at}
 
 -- the name of the storey that an object stands in, if it stands in one
 abbrev pub IsStoreyName : List Instance → ℕ → Option (List ℕ) → Type 0

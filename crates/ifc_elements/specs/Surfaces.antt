@@ -11,12 +11,12 @@ use Rattle.bim_model.specs.Models.{IsInReach}
 use Rattle.p21_values.specs.declared.value.Instance.{Instance}
 use Rattle.ifc_units.specs.declared.scale.Scale.{Scale}
 use Rattle.p21_values.specs.Values.{is_absent}
-use Rattle.ifc_instances.specs.Looking.{some_passes}
+use Rattle.ifc_instances.specs.EntityLookup.{some_passes}
 use Rattle.placement.specs.declared.frame.Frame.{Frame}
 use Rattle.placement.specs.Frames.{carried}
 use Rattle.placement.specs.Placed.{FrameOf}
 use Rattle.placement.specs.Operators.{OperatorFrame}
-use Rattle.faceset.specs.Sets.{Joined, SetTriangles, spelled_points}
+use Rattle.faceset.specs.FaceSets.{Joined, SetTriangles, spelled_points}
 use Rattle.p21_values.specs.Attributes.{reference_at}
 use Rattle.ifc_elements.specs.Items.{body_items, is_mapped_item, mapped_sets}
 use Rattle.ifc_units.specs.Lengths.{ArePoints}

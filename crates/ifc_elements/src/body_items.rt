@@ -1,7 +1,7 @@
 //! The items of bodies.
 ghost use Rattle.std.specs.Prelude.{◌≡◌, ◌++◌, ◌∷◌, [], map, Some, IfOk, OnOk};
-ghost use Rattle.p21_values.specs.Looking.{look};
-ghost use Rattle.ifc_schema.specs.Bodies.{is_body_representation};
+ghost use Rattle.p21_values.specs.InstanceLookup.{look};
+ghost use Rattle.ifc_schema.specs.BodyRepresentations.{is_body_representation};
 ghost use Rattle.ifc_elements.specs.Items.{spelled_items, is_mapped_item, is_item, spelled_sets, bodies_among, bodies_of};
 ghost use Rattle.ifc_elements.specs.Finding.{Number};
 

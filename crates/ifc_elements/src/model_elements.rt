@@ -7,12 +7,12 @@ ghost use Rattle.ifc_units.specs.declared.scale.Scale.{Scale};
 ghost use Rattle.p21_values.specs.declared.value.Instance.{Instance};
 ghost use Rattle.placement.specs.Placed.{AreFrames, frame_in};
 ghost use Rattle.spatial_tree.specs.Trees.{ListsStoreys};
-ghost use Rattle.p21_values.specs.Looking.{look};
+ghost use Rattle.p21_values.specs.InstanceLookup.{look};
 ghost use Rattle.ifc_elements.specs.Framed.{Framed, AllFramed};
 ghost use Rattle.ifc_elements.specs.Sound.{AreSets};
 ghost use Rattle.ifc_elements.specs.Shapes.{AreShapes};
-ghost use Rattle.ifc_elements.specs.Names.{AreNames};
-ghost use Rattle.ifc_elements.specs.Making.{IsStanding, IsFrameOf, IsNearSurface, IsNearElement, Lacks, LacksAt, IsFirstLacking};
+ghost use Rattle.ifc_elements.specs.StoreyNames.{AreNames};
+ghost use Rattle.ifc_elements.specs.ElementReadiness.{IsStanding, IsFrameOf, IsNearSurface, IsNearElement, Lacks, LacksAt, IsFirstLacking};
 
 use crate::kept_sets::Sets;
 use crate::lack::{Lack, Lacking};

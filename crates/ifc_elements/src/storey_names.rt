@@ -1,6 +1,6 @@
 //! The names of storeys, read once for each storey.
 ghost use Rattle.std.specs.Prelude.{◌≡◌, ℕ, None, IfOk, OnOk, option_copied};
-ghost use Rattle.ifc_elements.specs.Names.{AreNames, PutsName, name_in};
+ghost use Rattle.ifc_elements.specs.StoreyNames.{AreNames, PutsName, name_in};
 
 use crate::texts::name_of;
 use bim_model::Text;

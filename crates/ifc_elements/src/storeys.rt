@@ -1,7 +1,7 @@
 //! The storeys that elements stand in (IFC4 ADD2 TC1, IfcBuildingStorey).
 ghost use Rattle.std.specs.Prelude.{IfOk};
 ghost use Rattle.spatial_tree.specs.Trees.{ListsStoreys};
-ghost use Rattle.ifc_elements.specs.Names.{AreNames};
+ghost use Rattle.ifc_elements.specs.StoreyNames.{AreNames};
 ghost use Rattle.ifc_elements.specs.Storeys.{IsStoreyName};
 
 use crate::storey_names::Names;

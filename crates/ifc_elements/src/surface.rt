@@ -6,7 +6,7 @@ ghost use Rattle.bim_model.specs.Models.{IsInReach};
 ghost use Rattle.p21_values.specs.declared.value.Instance.{Instance};
 ghost use Rattle.placement.specs.Frames.{IsFrame, AreWithin, most};
 ghost use Rattle.ifc_units.specs.Lengths.{reach};
-ghost use Rattle.faceset.specs.Sets.{Joined};
+ghost use Rattle.faceset.specs.FaceSets.{Joined};
 ghost use Rattle.p21_values.specs.Attributes.{led_to};
 ghost use Rattle.ifc_elements.specs.Items.{items_of, item_count, body_items, bodies};
 ghost use Rattle.ifc_elements.specs.Finding.{Number};

@@ -1,6 +1,6 @@
 //! What is told of an element in texts (IFC4 ADD2 TC1, IfcRoot).
 ghost use Rattle.std.specs.Prelude.{◌≡◌, IfOk, IfSome, MatchOption};
-ghost use Rattle.ifc_elements.specs.Texts.{text_at, name_of, IsRead, IsUnread};
+ghost use Rattle.ifc_elements.specs.ElementTexts.{text_at, name_of, IsRead, IsUnread};
 
 use bim_model::{Guid, Text};
 use bim_text::{text_of, text_of_plain};

@@ -1,17 +1,16 @@
 -- An instance's entity is told by the number of its keyword.
-use Rattle.std.proofs.Common.{◌≡◌, ℕ, zero, suc, ◌+◌, ◌<◌, ◌==◌, nat_lt, nat_le, ◌⊎◌, inl, inr, Bool, true, false, ◌&&◌, ◌||◌, cond, List, [], ◌∷◌, length, get_or, Option, Some, None, option_and_then, arith, refl, sym, ap, subst, ◌∙◌}
-use Rattle.std.proofs.lemmas.Bool.{cases_Bool, eqb-true, and_parts}
-use Rattle.std.specs.List.{list_any, list_all, find, slice_get}
+use Rattle.std.proofs.Common.{◌≡◌, ℕ, zero, suc, ◌+◌, ◌<◌, nat_lt, inl, inr, Bool, true, false, ◌&&◌, cond, List, [], ◌∷◌, length, get_or, Option, Some, None, option_and_then, arith, refl, sym, ap, subst, ◌∙◌}
+use Rattle.std.proofs.lemmas.Bool.{cases_Bool, and_parts}
+use Rattle.std.specs.List.{list_any, find}
 use Rattle.std.specs.Str.{bytes_eq}
-use Rattle.ifc_keywords.specs.Codes.{known, code_among, code_of, code_at}
-use Rattle.ifc_keywords.proofs.Numbered.{is_same, CodedAs, a_number}
-use Rattle.p21_values.specs.declared.value.Instance.{Instance}
+use Rattle.ifc_keywords.specs.Codes.{known, code_of, code_at}
+use Rattle.ifc_keywords.proofs.Numbered.{is_same, a_number}
 use Rattle.ifc_keywords.specs.declared.known_words.TheConstants.{KEYWORDS}
 use Rattle.ifc_instances.specs.declared.entity.Entity.{Entity}
 use Rattle.ifc_instances.specs.declared.entity.Entity.TheVariants.{Project, UnitAssignment, SiUnit, Storey, Aggregates, Containment, ProductShape, Representation, Placement, AxisPlacement, Point, Direction, PointList, TriangulatedFaceSet, PolygonalFaceSet, Face, FaceWithVoids, MappedItem, RepresentationMap, Operator, ConvertedUnit, Measure, Subject}
 use Rattle.ifc_instances.specs.Entities.{keywords_of, subjects, is_of, entities, entity_of}
-use Rattle.ifc_instances.specs.Looking.{entity_at, is_keyword_of, is_a}
-use Rattle.ifc_instances.specs.Coded.{has_code, coded, by_code}
+use Rattle.ifc_instances.specs.EntityLookup.{is_keyword_of}
+use Rattle.ifc_instances.specs.Coded.{has_code, by_code}
 
 -- Each known keyword is one of an entity's exactly where its number is.
 

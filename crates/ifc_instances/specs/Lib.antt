@@ -1,4 +1,4 @@
 pub mod Coded
 pub mod Entities
-pub mod Looking
+pub mod EntityLookup
 pub mod Least

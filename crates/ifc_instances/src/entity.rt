@@ -158,7 +158,7 @@ const CODED: [Entity; FIRST_ELEMENT as usize] = [
 impl Entity {
     ghost use Rattle.std.specs.Prelude.{◌≡◌};
     ghost use Rattle.ifc_instances.specs.Coded.{has_code, by_code};
-    ghost use Rattle.ifc_instances.specs.Looking.{entity_at, is_a};
+    ghost use Rattle.ifc_instances.specs.EntityLookup.{entity_at, is_a};
 
     /// Whether a keyword is one of this entity's.
     #[tactic(auto, unfolding(crate::specs::Entities::is_of))]

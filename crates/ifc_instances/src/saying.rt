@@ -1,6 +1,6 @@
 //! What attributes of an instance say.
 ghost use Rattle.std.specs.Prelude.{◌≡◌};
-ghost use Rattle.ifc_instances.specs.Looking.{says};
+ghost use Rattle.ifc_instances.specs.EntityLookup.{says};
 
 use p21_table::InstanceRef;
 

@@ -16,8 +16,8 @@ use Rattle.ifc_schema.specs.declared.form.Shape.{Shape}
 use Rattle.ifc_schema.specs.declared.form.Shape.TheVariants as shape
 use Rattle.ifc_schema.specs.Forms.{fits}
 use Rattle.p21_values.specs.Values.{number_of, items_of, measure_of}
-use Rattle.ifc_schema.specs.Table.{row_at}
-use Rattle.ifc_schema.specs.Bodies.{applies}
+use Rattle.ifc_schema.specs.AttributeTable.{row_at}
+use Rattle.ifc_schema.specs.BodyRepresentations.{applies}
 use Rattle.ifc_schema.specs.Used.{IsMapped}
 use Rattle.ifc_schema.specs.Surveys.{UsedFlaw}
 use Rattle.ifc_schema.specs.Flaws.{NumberFlaw, WholeFlaw, LeafFlaw, FirstFlaw, ItemsFlaw, ListFlaw, ShapeFlaw, ValueFlaw, PlaceFlaw, AttributeFlaw, InstanceFlaw, absent_stands}

@@ -4,7 +4,7 @@ use Rattle.std.specs.List.{slice_get}
 use Rattle.std.proofs.lemmas.List.{get_or-map, length-map}
 use Rattle.std.proofs.lemmas.Option.{get_or_from_slice_get}
 use Rattle.p21_values.specs.declared.value.Instance.{Instance}
-use Rattle.ifc_schema.specs.Bodies.{has_body, bodied_of}
+use Rattle.ifc_schema.specs.BodyRepresentations.{has_body, bodied_of}
 
 pub bits_within : (world : List Instance) (bits : List Bool) (at : ℕ) → bits ≡ bodied_of world → at < length world → at < length bits
 bits_within world bits at e lt = subst (λ (n : ℕ). at < n) (sym (ap length e ∙ length-map world (has_body world))) lt

@@ -7,7 +7,7 @@ use Rattle.p21_values.specs.declared.value.Instance.{Instance}
 use Rattle.p21_values.specs.Values.{words_of}
 use Rattle.ifc_instances.specs.declared.entity.Entity.{Entity}
 use Rattle.ifc_instances.specs.declared.entity.Entity.TheVariants as entity
-use Rattle.ifc_instances.specs.Looking.{some_passes}
+use Rattle.ifc_instances.specs.EntityLookup.{some_passes}
 use Rattle.ifc_schema.specs.declared.flaw.Flaw.{Flaw}
 use Rattle.ifc_schema.specs.declared.form.Attribute.{Attribute}
 use Rattle.ifc_schema.specs.declared.form.Targets.TheVariants as targets
@@ -17,8 +17,8 @@ use Rattle.ifc_schema.specs.declared.form.Need.TheVariants.{Must, OrAbsent}
 use Rattle.ifc_schema.specs.declared.form.When.TheVariants.{Always, WithBody}
 use Rattle.ifc_schema.specs.Forms.{holds, followed}
 use Rattle.ifc_schema.specs.Used.{NamesBy}
-use Rattle.ifc_schema.specs.Table.{row_of, attribute, row_or_none}
-use Rattle.ifc_schema.specs.Words.{says_guid}
+use Rattle.ifc_schema.specs.AttributeTable.{row_of, attribute, row_or_none}
+use Rattle.ifc_schema.specs.AttributeWords.{says_guid}
 use Rattle.ifc_schema.specs.Flaws.{FirstFlaw, bad_unless}
 use Rattle.ifc_schema.proofs.Firsts.{first_here, first_behind, first_only}
 

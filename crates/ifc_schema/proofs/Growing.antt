@@ -10,9 +10,9 @@ use Rattle.ifc_schema.specs.declared.worklist.Mark.{Mark}
 use Rattle.ifc_schema.specs.declared.worklist.Mark.TheVariants.{Unseen, Used as Met, Mapped}
 use Rattle.ifc_schema.specs.declared.worklist.Work.{Work}
 use Rattle.ifc_schema.specs.Forms.{holds}
-use Rattle.p21_values.specs.Places.{IsPlaceOf}
+use Rattle.p21_values.specs.InstancePlaces.{IsPlaceOf}
 use Rattle.ifc_schema.specs.Used.{LeadsTo}
-use Rattle.ifc_schema.specs.Marks.{rank, rank_at, mark_at, SoundAt, Grows, IsMarked}
+use Rattle.ifc_schema.specs.InstanceMarks.{rank, rank_at, mark_at, SoundAt, Grows, IsMarked}
 use Rattle.p21_values.proofs.PlaceLemmas.{found_at, place_once}
 
 pub grows_trans : (world : List Instance) (a b c : Work) → Grows world a b → Grows world b c → Grows world a c

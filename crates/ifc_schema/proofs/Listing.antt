@@ -5,20 +5,20 @@ use Rattle.std.proofs.Math.ListN.{get_or-append}
 use Rattle.std.proofs.lemmas.List.Elements.{Contains-append_left, Contains-push, Contains-push_cases}
 use Rattle.ifc_instances.proofs.Rising.{below_next}
 use Rattle.p21_values.specs.declared.value.Instance.{Instance}
-use Rattle.p21_values.specs.Places.{Rises}
+use Rattle.p21_values.specs.InstancePlaces.{Rises}
 use Rattle.ifc_schema.specs.declared.flaw.Flaw.{Flaw}
 use Rattle.ifc_schema.specs.declared.worklist.Mark.{Mark}
 use Rattle.ifc_schema.specs.declared.worklist.Mark.TheVariants.{Unseen, Used as Met, Mapped}
 use Rattle.ifc_schema.specs.declared.worklist.Work.{Work}
-use Rattle.p21_values.specs.Looking.{look}
-use Rattle.ifc_instances.specs.Looking.{entity_at}
-use Rattle.p21_values.specs.Places.{IsPlaceOf}
+use Rattle.p21_values.specs.InstanceLookup.{look}
+use Rattle.ifc_instances.specs.EntityLookup.{entity_at}
+use Rattle.p21_values.specs.InstancePlaces.{IsPlaceOf}
 use Rattle.ifc_schema.specs.Used.{Used, root, named, mapped, IsMapped, is_root}
-use Rattle.ifc_schema.specs.Marks.{rank, rank_at, mark_at, is_seen, is_mapped, Known}
+use Rattle.ifc_schema.specs.InstanceMarks.{rank, rank_at, mark_at, is_seen, is_mapped, Known}
 use Rattle.ifc_schema.specs.Flaws.{InstanceFlaw}
 use Rattle.ifc_schema.specs.Surveys.{UsedFlaw, SurveyFault, IsModelElement, is_model_element, is_subject, Lists, fault_of}
-use Rattle.ifc_schema.specs.Steps.{FaultAt, CheckedAt, Checked, Below}
-use Rattle.ifc_schema.specs.Bodies.{has_body}
+use Rattle.ifc_schema.specs.InstanceFaults.{FaultAt, CheckedAt, Checked, Below}
+use Rattle.ifc_schema.specs.BodyRepresentations.{has_body}
 use Rattle.p21_values.proofs.PlaceLemmas.{rising, place_found, some_instance}
 use Rattle.ifc_schema.proofs.Following.{look_there, number_once, mapped_rank, rank_mapped}
 use Rattle.bim_model.specs.declared.upload.UploadFault.{UploadFault}

@@ -8,7 +8,7 @@ use Rattle.p21_values.specs.declared.value.Value21.{Value21}
 use Rattle.p21_values.specs.declared.value.Instance.{Instance}
 use Rattle.p21_values.proofs.PlaceLemmas.{trichotomy}
 use Rattle.p21_values.specs.Values.{number_of, words_of, reference_of, items_of, is_enumeration, measure_of}
-use Rattle.ifc_instances.specs.Looking.{some_passes}
+use Rattle.ifc_instances.specs.EntityLookup.{some_passes}
 use Rattle.ifc_schema.specs.declared.flaw.Flaw.{Flaw}
 use Rattle.ifc_schema.specs.declared.flaw.Flaw.TheVariants.{Dangling, BadShape}
 use Rattle.ifc_schema.specs.declared.form.Attribute.{Attribute}
@@ -18,10 +18,10 @@ use Rattle.ifc_schema.specs.declared.form.Count.{Count}
 use Rattle.ifc_schema.specs.declared.form.Shape.{Shape}
 use Rattle.ifc_schema.specs.declared.form.Shape.TheVariants as shape
 use Rattle.ifc_schema.specs.declared.outcome.Survey.{Survey}
-use Rattle.ifc_schema.specs.Words.{says_guid}
+use Rattle.ifc_schema.specs.AttributeWords.{says_guid}
 use Rattle.ifc_schema.specs.Forms.{fits, allows_missing}
-use Rattle.ifc_schema.specs.Table.{row_at}
-use Rattle.ifc_schema.specs.Bodies.{applies}
+use Rattle.ifc_schema.specs.AttributeTable.{row_at}
+use Rattle.ifc_schema.specs.BodyRepresentations.{applies}
 use Rattle.ifc_schema.specs.Used.{IsMapped}
 use Rattle.ifc_schema.specs.Surveys.{UsedFlaw, SurveyFault, Surveyed, fault_of}
 use Rattle.ifc_schema.specs.Flaws.{NumberFlaw, WholeFlaw, LeafFlaw, FirstFlaw, ItemsFlaw, ListFlaw, ShapeFlaw, ValueFlaw, PlaceFlaw, AttributeFlaw, InstanceFlaw, absent_stands, bad_unless, wanted_flaw, any_flaw, reference_flaw}

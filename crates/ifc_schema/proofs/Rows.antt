@@ -16,9 +16,9 @@ use Rattle.ifc_schema.specs.declared.form.Shape.TheVariants as shape
 use Rattle.ifc_schema.specs.declared.form.Need.TheVariants.{Must, OrAbsent}
 use Rattle.ifc_schema.specs.declared.form.When.TheVariants.{Always}
 use Rattle.ifc_schema.specs.Forms.{allows_missing}
-use Rattle.ifc_schema.specs.Table.{row_of, attribute, row_at, row_or_none}
-use Rattle.ifc_instances.specs.Looking.{entity_at}
-use Rattle.ifc_schema.specs.Bodies.{applies}
+use Rattle.ifc_schema.specs.AttributeTable.{row_of, attribute, row_at, row_or_none}
+use Rattle.ifc_instances.specs.EntityLookup.{entity_at}
+use Rattle.ifc_schema.specs.BodyRepresentations.{applies}
 use Rattle.ifc_schema.specs.Flaws.{PlaceFlaw, AttributeFlaw, InstanceFlaw, bad_unless}
 
 abbrev no_flaw : Option Flaw

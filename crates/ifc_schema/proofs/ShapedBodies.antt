@@ -6,15 +6,15 @@ use Rattle.std.proofs.lemmas.Bool.{and_parts}
 use Rattle.p21_values.specs.declared.value.Value21.{Value21}
 use Rattle.p21_values.specs.declared.value.Instance.{Instance}
 use Rattle.p21_values.specs.Values.{reference_of, items_of}
-use Rattle.p21_values.specs.Looking.{look}
+use Rattle.p21_values.specs.InstanceLookup.{look}
 use Rattle.ifc_instances.specs.declared.entity.Entity.{Entity}
 use Rattle.ifc_instances.specs.declared.entity.Entity.TheVariants as entity
-use Rattle.ifc_instances.specs.Looking.{is_a, is_keyword_of, some_passes}
+use Rattle.ifc_instances.specs.EntityLookup.{is_a, is_keyword_of, some_passes}
 use Rattle.ifc_schema.specs.declared.flaw.Flaw.{Flaw}
 use Rattle.ifc_schema.specs.declared.form.Targets.{Targets}
 use Rattle.ifc_schema.specs.declared.form.Targets.TheVariants as targets
 use Rattle.ifc_schema.specs.Forms.{holds}
-use Rattle.ifc_schema.specs.Bodies.{has_body, is_body_shape, lists_body, target_passes}
+use Rattle.ifc_schema.specs.BodyRepresentations.{has_body, is_body_shape, lists_body, target_passes}
 use Rattle.ifc_schema.specs.Flaws.{AttributeFlaw, PlaceFlaw, absent_stands, bad_unless, reference_flaw, target_flaw, wanted_flaw}
 use Rattle.ifc_schema.proofs.ElementRows.{shaped}
 

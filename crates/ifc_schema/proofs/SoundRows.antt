@@ -5,7 +5,7 @@ use Rattle.std.specs.Bool.{OnTrue}
 use Rattle.std.proofs.lemmas.List.{get_or_append_left, length-append}
 use Rattle.std.proofs.lemmas.List.Elements.{All-nil, All-push, All-append, All-get_or, All-weaker}
 use Rattle.std.proofs.Math.Seq.{get_or-append_seam}
-use Rattle.bim_text.specs.Values.{signed}
+use Rattle.bim_text.specs.ScaledNumbers.{signed}
 use Rattle.bim_text.specs.declared.short.Short.{Short}
 use Rattle.bim_text.specs.declared.short.ShortRow.{ShortRow}
 use Rattle.bim_text.proofs.ShortDecimals.{short_reads, short_whole}
@@ -18,9 +18,9 @@ use Rattle.ifc_schema.specs.declared.form.Leaf.{Leaf}
 use Rattle.ifc_schema.specs.declared.form.Leaf.TheVariants.{Number, Whole}
 use Rattle.ifc_schema.specs.declared.form.Count.{Count}
 use Rattle.ifc_schema.specs.declared.form.Count.TheVariants.{Exactly}
-use Rattle.ifc_schema.specs.Words.{IsNumber, IsWhole}
+use Rattle.ifc_schema.specs.AttributeWords.{IsNumber, IsWhole}
 use Rattle.ifc_schema.specs.Flaws.{LeafFlaw, ListFlaw, ItemsFlaw, FirstFlaw}
-use Rattle.ifc_schema.specs.Passing.{IsSound, Passes}
+use Rattle.ifc_schema.specs.SoundValues.{IsSound, Passes}
 use Rattle.ifc_schema.proofs.Firsts.{flawed_next}
 
 -- Of one row.

@@ -2,10 +2,10 @@
 use Rattle.std.proofs.Common.{◌≡◌, ℕ, ℤ, pos, negsuc, ◌*ℤ◌, ◌≤ℤ◌, Bool, List, ap, ◌∙◌, arith}
 use Rattle.std.proofs.lemmas.Int.{ints}
 use Rattle.bim_text.specs.declared.decimal.Decimal.{Decimal}
-use Rattle.bim_text.specs.Values.{Scaled, whole, signed, numerator, denominator, SameValue}
-use Rattle.bim_text.specs.Numbers.{written}
+use Rattle.bim_text.specs.ScaledNumbers.{Scaled, whole, signed, numerator, denominator, SameValue}
+use Rattle.bim_text.specs.NumberSpellings.{written}
 use Rattle.bim_text.specs.Decimals.{Reads}
-use Rattle.ifc_schema.specs.Words.{IsWhole}
+use Rattle.ifc_schema.specs.AttributeWords.{IsWhole}
 
 times_one : (x : ℤ) → x *ℤ pos 1 ≡ x
 times_one x = omega (arith, ints)

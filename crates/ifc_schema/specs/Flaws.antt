@@ -14,13 +14,13 @@ use Rattle.ifc_schema.specs.declared.form.Count.{Count}
 use Rattle.ifc_schema.specs.declared.form.Shape.{Shape}
 use Rattle.ifc_schema.specs.declared.form.Shape.TheVariants as shape
 use Rattle.ifc_schema.specs.declared.form.Need.{Need}
-use Rattle.ifc_schema.specs.Words.{IsNumber, IsNoNumber, IsWhole, IsNotWhole, says_guid}
+use Rattle.ifc_schema.specs.AttributeWords.{IsNumber, IsNoNumber, IsWhole, IsNotWhole, says_guid}
 use Rattle.ifc_schema.specs.Forms.{fits, holds, allows_absent, allows_missing}
 use Rattle.p21_values.specs.Values.{number_of, words_of, reference_of, items_of, measure_of, is_enumeration, is_absent}
-use Rattle.p21_values.specs.Looking.{look}
-use Rattle.ifc_instances.specs.Looking.{some_passes}
-use Rattle.ifc_schema.specs.Table.{row_at}
-use Rattle.ifc_schema.specs.Bodies.{applies}
+use Rattle.p21_values.specs.InstanceLookup.{look}
+use Rattle.ifc_instances.specs.EntityLookup.{some_passes}
+use Rattle.ifc_schema.specs.AttributeTable.{row_at}
+use Rattle.ifc_schema.specs.BodyRepresentations.{applies}
 
 -- Of a single value.
 

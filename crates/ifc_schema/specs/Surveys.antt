@@ -11,9 +11,9 @@ use Rattle.ifc_instances.specs.declared.entity.Entity.TheVariants.{Subject}
 use Rattle.ifc_schema.specs.declared.flaw.Flaw.{Flaw}
 use Rattle.ifc_schema.specs.declared.flaw.Flaw.TheVariants.{Dangling, BadShape}
 use Rattle.ifc_schema.specs.declared.outcome.Survey.{Survey}
-use Rattle.p21_values.specs.Looking.{look}
-use Rattle.ifc_instances.specs.Looking.{entity_at}
-use Rattle.ifc_schema.specs.Bodies.{has_body}
+use Rattle.p21_values.specs.InstanceLookup.{look}
+use Rattle.ifc_instances.specs.EntityLookup.{entity_at}
+use Rattle.ifc_schema.specs.BodyRepresentations.{has_body}
 use Rattle.ifc_schema.specs.Flaws.{InstanceFlaw}
 use Rattle.ifc_schema.specs.Used.{Used, IsMapped}
 

@@ -12,10 +12,10 @@ use Rattle.ifc_schema.specs.declared.form.Shape.{Shape}
 use Rattle.ifc_schema.specs.declared.form.Shape.TheVariants as shape
 use Rattle.ifc_schema.specs.Forms.{holds, followed}
 use Rattle.p21_values.specs.Values.{reference_of, items_of}
-use Rattle.p21_values.specs.Looking.{look}
-use Rattle.ifc_instances.specs.Looking.{entity_at}
-use Rattle.ifc_schema.specs.Table.{row_at}
-use Rattle.ifc_schema.specs.Bodies.{applies}
+use Rattle.p21_values.specs.InstanceLookup.{look}
+use Rattle.ifc_instances.specs.EntityLookup.{entity_at}
+use Rattle.ifc_schema.specs.AttributeTable.{row_at}
+use Rattle.ifc_schema.specs.BodyRepresentations.{applies}
 
 -- the entities whose instances are used wherever they stand
 abbrev pub is_root : Option Entity → Bool

@@ -1,6 +1,6 @@
 //! The attributes of each entity that is followed: what stands where.
 ghost use Rattle.std.specs.Prelude.{◌≡◌};
-ghost use Rattle.ifc_schema.specs.Table.{row_of, row_at};
+ghost use Rattle.ifc_schema.specs.AttributeTable.{row_of, row_at};
 
 use crate::form::{Attribute, Count, Leaf, Need, Shape, Targets, When};
 use ifc_instances::Entity;
@@ -405,7 +405,7 @@ const OPERATOR: [Attribute; 5] = [
 ];
 
 /// The attributes of an entity that are followed, by rising number.
-#[tactic(auto, unfolding(crate::specs::Table::row_of))]
+#[tactic(auto, unfolding(crate::specs::AttributeTable::row_of))]
 pub fn row_of(entity: Entity) -> &'static [Attribute]
     ensures { result.now ≡ row_of entity }
 {

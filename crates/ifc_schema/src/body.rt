@@ -1,7 +1,7 @@
 //! Which elements have a body.
 ghost use Rattle.std.specs.Prelude.{◌≡◌, Bool, List, IfOk, length, map};
 ghost use Rattle.p21_values.specs.declared.value.Instance.{Instance};
-ghost use Rattle.ifc_schema.specs.Bodies.{is_body, is_body_representation, target_passes, lists_body, is_body_shape, body_shapes, has_body, bodied_of, is_of_length, applies};
+ghost use Rattle.ifc_schema.specs.BodyRepresentations.{is_body, is_body_representation, target_passes, lists_body, is_body_shape, body_shapes, has_body, bodied_of, is_of_length, applies};
 
 use crate::form::When;
 use crate::words::says_body;
@@ -10,7 +10,7 @@ use p21_table::{Exchange, InstanceRef, ValueRef, Values};
 use std::alloc::{AllocError, Global};
 
 /// Whether the identifier of a representation is `Body`.
-#[tactic(auto, unfolding(crate::specs::Bodies::is_body))]
+#[tactic(auto, unfolding(crate::specs::BodyRepresentations::is_body))]
 pub fn is_body(instance: &InstanceRef<'_>) -> bool
     ensures { result ≡ is_body instance.now }
 {
@@ -68,7 +68,7 @@ fn lists_body(exchange: &Exchange, bodies: &[bool], items: &Values<'_>) -> bool
     false
 }
 
-#[tactic(auto, unfolding(crate::specs::Bodies::is_body_shape))]
+#[tactic(auto, unfolding(crate::specs::BodyRepresentations::is_body_shape))]
 fn is_body_shape(exchange: &Exchange, bodies: &[bool], shape: &InstanceRef<'_>) -> bool
     requires bodies { bodies.now ≡ map is_body_representation exchange.now }
     ensures { result ≡ is_body_shape exchange.now shape.now }
@@ -98,7 +98,7 @@ fn body_shapes(alloc: Global, exchange: &Exchange) -> Result<Vec<bool>, AllocErr
 }
 
 /// Whether an element has a body: one of the representations of its shape has the identifier `Body`.
-#[tactic(auto, unfolding(crate::specs::Bodies::has_body))]
+#[tactic(auto, unfolding(crate::specs::BodyRepresentations::has_body))]
 fn has_body(exchange: &Exchange, bodied: &[bool], element: &InstanceRef<'_>) -> bool
     requires bodied { bodied.now ≡ body_shapes exchange.now }
     ensures { result ≡ has_body exchange.now element.now }
@@ -122,7 +122,7 @@ pub fn bodied_of(alloc: Global, exchange: &Exchange) -> Result<Vec<bool>, AllocE
 }
 
 /// Whether it is a unit of length.
-#[tactic(auto, unfolding(crate::specs::Bodies::is_of_length))]
+#[tactic(auto, unfolding(crate::specs::BodyRepresentations::is_of_length))]
 fn is_of_length(instance: &InstanceRef<'_>) -> bool
     ensures { result ≡ is_of_length instance.now }
 {

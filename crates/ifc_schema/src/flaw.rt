@@ -3,7 +3,7 @@ ghost use Rattle.std.specs.Prelude.{◌≡◌};
 ghost use Rattle.std.specs.Bool.{OnTrue};
 ghost use Rattle.p21_values.specs.declared.value.Value21.{Value21};
 ghost use Rattle.p21_table.specs.ShortRows.{SaysRow};
-ghost use Rattle.ifc_schema.specs.Passing.{IsSound, Passes};
+ghost use Rattle.ifc_schema.specs.SoundValues.{IsSound, Passes};
 ghost use Rattle.ifc_schema.specs.Forms.{fits, holds, allows_absent, allows_missing};
 ghost use Rattle.ifc_schema.specs.Flaws.{
   bad_unless,
@@ -20,10 +20,10 @@ ghost use Rattle.ifc_schema.specs.Flaws.{
   AttributeFlaw,
   InstanceFlaw,
 };
-ghost use Rattle.ifc_schema.specs.Words.{says_guid};
-ghost use Rattle.ifc_instances.specs.Looking.{some_passes};
-ghost use Rattle.ifc_schema.specs.Bodies.{has_body};
-ghost use Rattle.ifc_schema.specs.Table.{row_of};
+ghost use Rattle.ifc_schema.specs.AttributeWords.{says_guid};
+ghost use Rattle.ifc_instances.specs.EntityLookup.{some_passes};
+ghost use Rattle.ifc_schema.specs.BodyRepresentations.{has_body};
+ghost use Rattle.ifc_schema.specs.AttributeTable.{row_of};
 ghost use Rattle.p21_values.specs.Values.{words_of, reference_of};
 
 use crate::attribute_table::{IDENTIFIER, NAME, PLACED, SHAPED, TAGGED, row_at};

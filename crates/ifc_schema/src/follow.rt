@@ -1,10 +1,10 @@
 //! Rows are followed: what they name is marked.
 ghost use Rattle.std.specs.Prelude.{◌≡◌, ◌≤◌, ℕ, length, OnOk, Any};
-ghost use Rattle.p21_values.specs.Places.{IsPlaceOf};
+ghost use Rattle.p21_values.specs.InstancePlaces.{IsPlaceOf};
 ghost use Rattle.ifc_schema.specs.Used.{Used, IsMapped, RefersTo, SomeItem, StandsIn, LeadsTo, NamesBy, Maps};
-ghost use Rattle.ifc_schema.specs.Bodies.{has_body};
-ghost use Rattle.ifc_schema.specs.Table.{row_of};
-ghost use Rattle.ifc_schema.specs.Marks.{Grows, IsMarked, SoundAt, rank, rank_at};
+ghost use Rattle.ifc_schema.specs.BodyRepresentations.{has_body};
+ghost use Rattle.ifc_schema.specs.AttributeTable.{row_of};
+ghost use Rattle.ifc_schema.specs.InstanceMarks.{Grows, IsMarked, SoundAt, rank, rank_at};
 
 use crate::attribute_table::{PLACED, SHAPED};
 use crate::body::applies;

@@ -1,11 +1,11 @@
 //! The survey of a file: whether all that is used has the form of its row.
 ghost use Rattle.std.specs.Prelude.{◌≡◌, ◌+◌, ◌<◌, ℕ, length, IfOk, IfErr, OnOk};
-ghost use Rattle.p21_values.specs.Places.{IsPlaceOf};
-ghost use Rattle.p21_values.specs.Places.{Rises};
+ghost use Rattle.p21_values.specs.InstancePlaces.{IsPlaceOf};
+ghost use Rattle.p21_values.specs.InstancePlaces.{Rises};
 ghost use Rattle.ifc_schema.specs.Used.{Used, IsMapped};
-ghost use Rattle.ifc_schema.specs.Bodies.{has_body, bodied_of};
-ghost use Rattle.ifc_schema.specs.Marks.{Known, rank_at};
-ghost use Rattle.ifc_schema.specs.Steps.{CheckedAt, Checked, Below};
+ghost use Rattle.ifc_schema.specs.BodyRepresentations.{has_body, bodied_of};
+ghost use Rattle.ifc_schema.specs.InstanceMarks.{Known, rank_at};
+ghost use Rattle.ifc_schema.specs.InstanceFaults.{CheckedAt, Checked, Below};
 ghost use Rattle.ifc_schema.specs.Surveys.{UsedFlaw, IsModelElement, Lists, Surveyed, IsSurveyError, is_model_element, fault_of};
 
 use crate::body::bodied_of;

@@ -5,9 +5,9 @@ ghost use Rattle.std.specs.List.{slice_get};
 ghost use Rattle.std.specs.Bool.{MatchBool};
 ghost use Rattle.p21_values.specs.declared.value.Instance.{Instance};
 ghost use Rattle.ifc_instances.specs.declared.entity.Entity.TheVariants.{Subject, Placement, AxisPlacement, Operator, Representation, TriangulatedFaceSet, PolygonalFaceSet, Face, FaceWithVoids, MappedItem};
-ghost use Rattle.ifc_schema.specs.Bodies.{is_body_representation, target_passes, lists_body, is_body_shape, has_body};
+ghost use Rattle.ifc_schema.specs.BodyRepresentations.{is_body_representation, target_passes, lists_body, is_body_shape, has_body};
 ghost use Rattle.ifc_schema.specs.Flaws.{InstanceFlaw};
-ghost use Rattle.ifc_schema.specs.Views.{
+ghost use Rattle.ifc_schema.specs.EntityViews.{
   HasForm,
   NoneFormed,
   Views,
@@ -139,7 +139,7 @@ fn lists_body(exchange: &Exchange, items: &Values<'_>) -> bool
     false
 }
 
-#[tactic(auto, unfolding(crate::specs::Bodies::is_body_shape))]
+#[tactic(auto, unfolding(crate::specs::BodyRepresentations::is_body_shape))]
 fn is_body_shape(exchange: &Exchange, shape: &InstanceRef<'_>) -> bool
     ensures { result ≡ is_body_shape exchange.now shape.now }
 {
@@ -168,7 +168,7 @@ fn refers_to_body_shape(exchange: &Exchange, value: &ValueRef<'_>) -> bool
 }
 
 /// Whether an element has a body: its shape's representations are gone through.
-#[tactic(auto, unfolding(crate::specs::Bodies::has_body))]
+#[tactic(auto, unfolding(crate::specs::BodyRepresentations::has_body))]
 fn has_body(exchange: &Exchange, element: &InstanceRef<'_>) -> bool
     ensures { result ≡ has_body exchange.now element.now }
 {

@@ -2,12 +2,12 @@
 ghost use Rattle.std.specs.Prelude.{◌≡◌, ◌<◌, ◌≤◌, ℕ, [], length, OnOk, IfOk, Any, slice_index_or};
 ghost use Rattle.std.specs.Bool.{OnTrue, OnFalse};
 ghost use Rattle.p21_values.specs.declared.value.Instance.{Instance};
-ghost use Rattle.p21_values.specs.Places.{IsPlaceOf};
-ghost use Rattle.p21_values.specs.Places.{Rises};
+ghost use Rattle.p21_values.specs.InstancePlaces.{IsPlaceOf};
+ghost use Rattle.p21_values.specs.InstancePlaces.{Rises};
 ghost use Rattle.ifc_schema.specs.Used.{Used, IsMapped, Maps, NamesBy, is_root};
-ghost use Rattle.ifc_schema.specs.Bodies.{has_body, bodied_of};
-ghost use Rattle.ifc_schema.specs.Marks.{Grows, SoundAt, IsMarked, mark_at, rank_at, is_mapped, IsFollowed, FollowedAt, IsRootAt, Going, Known};
-ghost use Rattle.ifc_schema.specs.Table.{row_at};
+ghost use Rattle.ifc_schema.specs.BodyRepresentations.{has_body, bodied_of};
+ghost use Rattle.ifc_schema.specs.InstanceMarks.{Grows, SoundAt, IsMarked, mark_at, rank_at, is_mapped, IsFollowed, FollowedAt, IsRootAt, Going, Known};
+ghost use Rattle.ifc_schema.specs.AttributeTable.{row_at};
 
 use crate::attribute_table::row_at;
 use crate::follow::{follow_attributes, follow_element, follow_map};

@@ -1,7 +1,7 @@
 //! What spelled numbers and texts say.
 ghost use Rattle.std.specs.Prelude.{◌≡◌};
 ghost use Rattle.std.specs.Bool.{MatchBool};
-ghost use Rattle.ifc_schema.specs.Words.{IsNumber, IsNoNumber, IsWhole, IsNotWhole, says_body, says_guid};
+ghost use Rattle.ifc_schema.specs.AttributeWords.{IsNumber, IsNoNumber, IsWhole, IsNotWhole, says_body, says_guid};
 
 use bim_text::{Decimal, says, small_whole};
 
@@ -41,7 +41,7 @@ fn is_whole_decimal(bytes: &[u8]) -> bool
 }
 
 /// Whether a spelled text says `Body`.
-#[tactic(auto, unfolding(crate::specs::Words::says_body))]
+#[tactic(auto, unfolding(crate::specs::AttributeWords::says_body))]
 pub fn says_body(spelled: &[u8]) -> bool
     ensures { result ≡ says_body spelled.now }
 {
@@ -49,7 +49,7 @@ pub fn says_body(spelled: &[u8]) -> bool
 }
 
 /// Whether a spelled text says a globally unique identifier.
-#[tactic(auto, unfolding(crate::specs::Words::says_guid))]
+#[tactic(auto, unfolding(crate::specs::AttributeWords::says_guid))]
 pub fn says_guid(spelled: &[u8]) -> bool
     ensures { result ≡ says_guid spelled.now }
 {

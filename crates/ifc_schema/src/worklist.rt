@@ -1,6 +1,6 @@
 //! Which instances were met, and whose rows are still to be followed.
 ghost use Rattle.std.specs.Prelude.{◌≡◌, ◌<◌, ◌++◌, ◌∷◌, [], length, OnOk, nat_lt, slice_set, if◌then◌else◌, replicate, IfOk};
-ghost use Rattle.ifc_schema.specs.Marks.{rank, rank_at, is_seen, is_mapped};
+ghost use Rattle.ifc_schema.specs.InstanceMarks.{rank, rank_at, is_seen, is_mapped};
 
 use std::alloc::{AllocError, Global};
 

@@ -60,7 +60,7 @@ const CHANGES: [Change; 7] = [
     Change {
         unit: UNIT,
         element: PLACED,
-        others: "#9=IFCLOCALPLACEMENT($,#10);#10=IFCAXIS2PLACEMENT3D(#11,$,$);#11=IFCCARTESIANPOINT((0.5,0.,0.));",
+        others: "#9=IFCLOCALPLACEMENT($,#10);#10=IFCAXIS2PLACEMENT3D(#11,$,$);#11=IFCCARTESIANPOINT((0.55,0.,0.));",
         fault: UploadFault::OffGrid { id: 11 },
     },
     Change {
@@ -89,9 +89,9 @@ fn a_model_is_built(rt: HostRuntime) -> Result<(), Fail> {
                 assert_eq!(rt; element.name.as_str(), "Pipe 1");
                 assert!(rt; element.storey.is_some());
                 for triangle in element.triangles.as_slice() {
-                    assert_eq!(rt; triangle.b.x, 1000);
-                    assert_eq!(rt; triangle.b.y, 100);
-                    assert_eq!(rt; triangle.c.x, 900);
+                    assert_eq!(rt; triangle.b.x, 10_000);
+                    assert_eq!(rt; triangle.b.y, 1_000);
+                    assert_eq!(rt; triangle.c.x, 9_000);
                 }
             }
         }

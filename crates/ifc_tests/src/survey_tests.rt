@@ -30,7 +30,7 @@ struct Case {
     told: [u64; 3],
 }
 
-const CASES: [Case; 74] = [
+const CASES: [Case; 96] = [
     Case {
         line: 0,
         text: b"#1=IFCPROJECT('0000000000000000000001',$,'P',$,$,$,$,(),#2);",
@@ -85,6 +85,116 @@ const CASES: [Case; 74] = [
         line: 1,
         text: b"#2=IFCUNITASSIGNMENT((5));#0=IFCPROJECT($);",
         told: [7, 0, 0],
+    },
+    Case {
+        line: 1,
+        text: b"#2=IFCUNITASSIGNMENT((#9));#9=IFCCONVERSIONBASEDUNIT($,.LENGTHUNIT.,'INCH',#10);#10=IFCMEASUREWITHUNIT(IFCLENGTHMEASURE(25.4),#3);",
+        told: [0, 10, 1],
+    },
+    Case {
+        line: 1,
+        text: b"#2=IFCUNITASSIGNMENT((#9));#9=IFCCONVERSIONBASEDUNIT($,.LENGTHUNIT.,'INCH',#10);#10=IFCMEASUREWITHUNIT(25.4,#3);",
+        told: [0, 10, 1],
+    },
+    Case {
+        line: 1,
+        text: b"#2=IFCUNITASSIGNMENT((#3,#9));#9=IFCCONVERSIONBASEDUNIT($,.PLANEANGLEUNIT.,'DEGREE',#99);",
+        told: [0, 9, 1],
+    },
+    Case {
+        line: 1,
+        text: b"#2=IFCUNITASSIGNMENT((#3,#9));#9=IFCCONVERSIONBASEDUNIT($,.PLANEANGLEUNIT.,'DEGREE',#10);#10=IFCMEASUREWITHUNIT('x',#99);",
+        told: [0, 9, 1],
+    },
+    Case {
+        line: 1,
+        text: b"#2=IFCUNITASSIGNMENT((#3,#9));#9=IFCCONVERSIONBASEDUNIT($,.lengthunit.,'INCH',#99);",
+        told: [0, 9, 1],
+    },
+    Case {
+        line: 1,
+        text: b"#2=IFCUNITASSIGNMENT((#3,#9));#9=IFCCONVERSIONBASEDUNIT($,.AREAUNIT.);",
+        told: [0, 9, 1],
+    },
+    Case {
+        line: 1,
+        text: b"#2=IFCUNITASSIGNMENT((#9));#9=IFCCONVERSIONBASEDUNIT($,$,'INCH',#99);",
+        told: [7, 9, 0],
+    },
+    Case {
+        line: 1,
+        text: b"#2=IFCUNITASSIGNMENT((#9));#9=IFCCONVERSIONBASEDUNIT($,.LENGTHUNIT.,'INCH');",
+        told: [7, 9, 0],
+    },
+    Case {
+        line: 1,
+        text: b"#2=IFCUNITASSIGNMENT((#9));#9=IFCCONVERSIONBASEDUNIT($,.LENGTHUNIT.,'INCH',$);",
+        told: [7, 9, 0],
+    },
+    Case {
+        line: 1,
+        text: b"#2=IFCUNITASSIGNMENT((#9));#9=IFCCONVERSIONBASEDUNIT($,.LENGTHUNIT.,'INCH',#99);",
+        told: [6, 9, 99],
+    },
+    Case {
+        line: 1,
+        text: b"#2=IFCUNITASSIGNMENT((#9));#9=IFCCONVERSIONBASEDUNIT($,.LENGTHUNIT.,'INCH',#3);",
+        told: [7, 9, 0],
+    },
+    Case {
+        line: 1,
+        text: b"#2=IFCUNITASSIGNMENT((#9));#9=IFCCONVERSIONBASEDUNIT($,.LENGTHUNIT.,'INCH',#10);#10=IFCMEASUREWITHUNIT('25.4',#3);",
+        told: [7, 10, 0],
+    },
+    Case {
+        line: 1,
+        text: b"#2=IFCUNITASSIGNMENT((#9));#9=IFCCONVERSIONBASEDUNIT($,.LENGTHUNIT.,'INCH',#10);#10=IFCMEASUREWITHUNIT($,#3);",
+        told: [7, 10, 0],
+    },
+    Case {
+        line: 1,
+        text: b"#2=IFCUNITASSIGNMENT((#9));#9=IFCCONVERSIONBASEDUNIT($,.LENGTHUNIT.,'INCH',#10);#10=IFCMEASUREWITHUNIT((25.4),#3);",
+        told: [7, 10, 0],
+    },
+    Case {
+        line: 1,
+        text: b"#2=IFCUNITASSIGNMENT((#9));#9=IFCCONVERSIONBASEDUNIT($,.LENGTHUNIT.,'INCH',#10);#10=IFCMEASUREWITHUNIT(IFCLABEL('25.4'),#99);",
+        told: [7, 10, 0],
+    },
+    Case {
+        line: 1,
+        text: b"#2=IFCUNITASSIGNMENT((#9));#9=IFCCONVERSIONBASEDUNIT($,.LENGTHUNIT.,'INCH',#10);#10=IFCMEASUREWITHUNIT(IFCLENGTHMEASURE(IFCREAL(25.4)),#3);",
+        told: [7, 10, 0],
+    },
+    Case {
+        line: 1,
+        text: b"#2=IFCUNITASSIGNMENT((#9));#9=IFCCONVERSIONBASEDUNIT($,.LENGTHUNIT.,'INCH',#10);#10=IFCMEASUREWITHUNIT(IFCLENGTHMEASURE(99999999999999999999999999999999999),#3);",
+        told: [7, 10, 0],
+    },
+    Case {
+        line: 1,
+        text: b"#2=IFCUNITASSIGNMENT((#9));#9=IFCCONVERSIONBASEDUNIT($,.LENGTHUNIT.,'INCH',#10);#10=IFCMEASUREWITHUNIT(25.4);",
+        told: [7, 10, 0],
+    },
+    Case {
+        line: 1,
+        text: b"#2=IFCUNITASSIGNMENT((#9));#9=IFCCONVERSIONBASEDUNIT($,.LENGTHUNIT.,'INCH',#10);#10=IFCMEASUREWITHUNIT(25.4,$);",
+        told: [7, 10, 0],
+    },
+    Case {
+        line: 1,
+        text: b"#2=IFCUNITASSIGNMENT((#9));#9=IFCCONVERSIONBASEDUNIT($,.LENGTHUNIT.,'INCH',#10);#10=IFCMEASUREWITHUNIT(25.4,#99);",
+        told: [6, 10, 99],
+    },
+    Case {
+        line: 1,
+        text: b"#2=IFCUNITASSIGNMENT((#9));#9=IFCCONVERSIONBASEDUNIT($,.LENGTHUNIT.,'INCH',#10);#10=IFCMEASUREWITHUNIT(25.4,#9);",
+        told: [7, 10, 0],
+    },
+    Case {
+        line: 1,
+        text: b"#2=IFCUNITASSIGNMENT((#9));#9=IFCCONVERSIONBASEDUNITWITHOFFSET($,.LENGTHUNIT.,'F',#99,1.);",
+        told: [0, 7, 1],
     },
     Case {
         line: 2,
@@ -432,8 +542,8 @@ fn told(answer: Result<Survey, BuildError>) -> [u64; 3] {
 
 #[test]
 fn used_instances_are_found(rt: HostRuntime) -> Result<(), Fail> {
-    for case in CASES {
-        let bytes = file_of(rt.alloc(), case)?;
+    for case in &CASES {
+        let bytes = file_of(rt.alloc(), *case)?;
         let exchange = read(rt.alloc(), bytes.as_slice()).ok().ok_or("refused")?;
         let answer = told(survey(rt.alloc(), &exchange));
         assert_eq!(rt; answer, case.told);

@@ -9,7 +9,7 @@ use Rattle.p21_values.specs.declared.value.Instance.{Instance}
 use Rattle.ifc_instances.specs.declared.entity.Entity.TheVariants as entity
 use Rattle.ifc_instances.specs.Entities.{is_of}
 use Rattle.p21_values.specs.Values.{items_of}
-use Rattle.ifc_instances.specs.Looking.{is_a, is_keyword_of}
+use Rattle.ifc_instances.specs.EntityLookup.{is_a, is_keyword_of}
 use Rattle.ifc_units.specs.declared.scale.Scale.{Scale}
 use Rattle.ifc_units.specs.declared.length_error.GridFault.{GridFault}
 use Rattle.ifc_units.specs.Lengths.{PointRefused, PointsRefused, ListRefused, InstanceRefused}

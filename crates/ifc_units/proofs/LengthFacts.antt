@@ -3,7 +3,7 @@ use Rattle.std.proofs.Common.{◌≡◌, ℕ, ◌<◌, ◌≤◌, ℤ, List, Som
 use Rattle.std.specs.Prelude.{unsigned_abs}
 use Rattle.bim_model.specs.declared.upload.Mode.{Mode}
 use Rattle.bim_text.specs.declared.decimal.Decimal.{Decimal}
-use Rattle.bim_text.specs.Values.{Scaled}
+use Rattle.bim_text.specs.ScaledNumbers.{Scaled}
 use Rattle.bim_text.specs.Decimals.{Reads}
 use Rattle.bim_text.proofs.Unique.{one_decimal}
 use Rattle.p21_values.specs.declared.value.Value21.{Value21}

@@ -6,5 +6,6 @@ pub mod LengthFacts
 pub mod ShortLengths
 pub mod PointFacts
 pub mod InstanceFacts
+pub mod ScaleFacts
 pub mod UnitFacts
 pub mod Abouts

@@ -18,7 +18,7 @@ use Rattle.ifc_units.specs.declared.length_error.LengthError.TheVariants as erro
 use Rattle.ifc_units.specs.Lengths.{reach, IsLength, LengthRefused, HasLength, FirstRefused, IsPoint, PointRefused, ArePoints, PointsRefused, Fails}
 use Rattle.ifc_units.proofs.LengthFacts.{one_length, length_apart, one_length_fault}
 use Rattle.ifc_units.proofs.Firsts.{never_refused, one_first, one_row, fails_here}
-use Rattle.ifc_units.specs.Faults.{fault_in}
+use Rattle.ifc_units.specs.LengthRefusals.{fault_in}
 
 -- points are equal by their coordinates
 pub same_point : (p q : Point) → p.x ≡ q.x → p.y ≡ q.y → p.z ≡ q.z → p ≡ q

@@ -1,12 +1,11 @@
 -- Sizes on the grid.
-use Rattle.std.proofs.Common.{◌≡◌, ℕ, ◌+◌, ◌-◌, ◌*◌, ◌/◌, ◌%◌, ◌^◌, ◌<◌, ◌≤◌, ◌⊎◌, inl, inr, refl, ap, ◌∙◌, arith}
+use Rattle.std.proofs.Common.{◌≡◌, ℕ, ◌+◌, ◌-◌, ◌*◌, ◌/◌, ◌%◌, ◌^◌, ◌<◌, ◌≤◌, ◌⊎◌, inl, inr, ap, ◌∙◌, arith}
 use Rattle.std.proofs.lemmas.Nat.{div-add-mod', pow-add}
 use Rattle.std.proofs.Math.Nat.{mul-le-mul_left, pow-le-pow_right}
-use Rattle.bim_model.specs.declared.upload.Mode.{Mode}
 use Rattle.bim_model.specs.declared.upload.Mode.TheVariants.{Exact, Snap}
 use Rattle.bim_text.proofs.Quotients.{times, power_some}
 use Rattle.ifc_units.specs.declared.sizes.TheConstants.{UNITS, MOST, MOST_COUNT}
-use Rattle.ifc_units.specs.Sizes.{distance, IsSize}
+use Rattle.ifc_units.specs.RoundedLengths.{distance, IsSize}
 
 -- at the size below and at the one above
 at_whole : (n d : ℕ) → distance n (n / d * d) ≡ n % d

@@ -8,7 +8,7 @@ use Rattle.bim_model.specs.declared.upload.Mode.{Mode}
 use Rattle.bim_model.specs.declared.upload.Mode.TheVariants.{Exact, Snap}
 use Rattle.bim_text.specs.declared.decimal.Decimal.{Decimal}
 use Rattle.bim_text.specs.declared.short.Short.{Short}
-use Rattle.bim_text.specs.Values.{Scaled, signed, above, below, SameValue}
+use Rattle.bim_text.specs.ScaledNumbers.{Scaled, signed, above, below, SameValue}
 use Rattle.bim_text.specs.Decimals.{Reads, value_of}
 use Rattle.bim_text.specs.Short.{SpellsShort}
 use Rattle.bim_text.proofs.Powers.{same_value, same_zero, powers, signed_size}
@@ -20,7 +20,7 @@ use Rattle.ifc_units.specs.declared.sizes.TheConstants.{UNITS, MOST}
 use Rattle.ifc_units.specs.declared.length_error.GridFault.{GridFault}
 use Rattle.ifc_units.specs.declared.length_error.GridFault.TheVariants.{OffGrid, TooFar}
 use Rattle.ifc_units.specs.Grid.{IsGridNumber}
-use Rattle.ifc_units.specs.Sizes.{distance, IsSize, IsSizeOf}
+use Rattle.ifc_units.specs.RoundedLengths.{distance, IsSize, IsSizeOf}
 use Rattle.ifc_units.specs.Lengths.{IsLength, LengthRefused}
 use Rattle.ifc_units.proofs.Signs.{times_left, grid_ok, grid_off, grid_far}
 use Rattle.ifc_units.proofs.LengthFacts.{length_here, length_refused}

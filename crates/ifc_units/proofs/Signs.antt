@@ -6,11 +6,11 @@ use Rattle.std.proofs.lemmas.Int.{ints}
 use Rattle.std.proofs.Math.Nat.{mul-le-mul_left}
 use Rattle.bim_model.specs.declared.upload.Mode.{Mode}
 use Rattle.bim_model.specs.declared.upload.Mode.TheVariants.{Exact, Snap}
-use Rattle.bim_text.specs.Values.{signed, above, below}
+use Rattle.bim_text.specs.ScaledNumbers.{signed, above, below}
 use Rattle.bim_text.proofs.Powers.{signed_times, signed_size}
 use Rattle.ifc_units.specs.declared.sizes.TheConstants.{UNITS, MOST}
 use Rattle.ifc_units.specs.Grid.{gap, IsGridNumber}
-use Rattle.ifc_units.specs.Sizes.{distance, IsSize, IsSizeOf}
+use Rattle.ifc_units.specs.RoundedLengths.{distance, IsSize, IsSizeOf}
 
 -- the difference of two numbers of one sign, and of two signs
 same_sign : (b : Bool) (m n : ℕ) → unsigned_abs (signed b m -ℤ signed b n) ≡ distance m n
@@ -42,7 +42,7 @@ gap_other u b m g p =
     ∙ ap (λ (x : ℤ). unsigned_abs (signed b (u * (m * 10 ^ above p)) -ℤ x)) (signed_times (not b) g (10 ^ below p))
     ∙ other_sign b (u * (m * 10 ^ above p)) (g * 10 ^ below p)
 
-size_of : (b : Bool) (m : ℕ) (p : ℤ) → unsigned_abs (signed b m *ℤ pos (10 ^ above p)) ≡ m * 10 ^ above p
+pub size_of : (b : Bool) (m : ℕ) (p : ℤ) → unsigned_abs (signed b m *ℤ pos (10 ^ above p)) ≡ m * 10 ^ above p
 size_of b m p = ap unsigned_abs (signed_times b m (10 ^ above p)) ∙ signed_size b (m * 10 ^ above p)
 
 -- a size is that of the grid number with the length's sign

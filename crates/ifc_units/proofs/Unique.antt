@@ -6,7 +6,7 @@ use Rattle.std.proofs.lemmas.Int.{ints, by_lt_z, unsigned_abs-mul}
 use Rattle.std.proofs.Math.Nat.{one-le-pow}
 use Rattle.bim_model.specs.declared.upload.Mode.{Mode}
 use Rattle.bim_model.specs.declared.upload.Mode.TheVariants.{Exact, Snap}
-use Rattle.bim_text.specs.Values.{Scaled, below, numerator, denominator}
+use Rattle.bim_text.specs.ScaledNumbers.{Scaled, below, numerator, denominator}
 use Rattle.bim_text.proofs.Quotients.{times}
 use Rattle.ifc_units.specs.Grid.{IsGridNumber}
 

@@ -1,17 +1,18 @@
 -- The projects of a file, and its length unit.
-use Rattle.std.proofs.Common.{◌≡◌, ◌⊎◌, inl, inr, ℕ, zero, suc, ◌<◌, ◌≤◌, Bool, true, false, ℤ, List, [], ◌∷◌, length, get_or, take, Some, None, Option, IfSome, IfNone, All, Any, refl, sym, ap, ◌∙◌, subst, arith, if◌then◌else◌}
+use Rattle.std.proofs.Common.{◌≡◌, ◌⊎◌, inl, inr, ℕ, zero, suc, ◌<◌, ◌≤◌, Bool, true, false, List, [], ◌∷◌, length, get_or, take, Some, None, Option, IfSome, IfNone, All, Any, refl, sym, ap, ◌∙◌, subst, arith, if◌then◌else◌}
 use Rattle.std.specs.List.{filter, find}
 use Rattle.std.proofs.lemmas.List.Elements.{All-filter}
 use Rattle.bim_model.specs.declared.upload.UploadFault.{UploadFault}
 use Rattle.bim_model.specs.declared.upload.UploadFault.TheVariants.{LengthUnit}
 use Rattle.p21_values.specs.declared.value.Value21.{Value21}
 use Rattle.p21_values.specs.declared.value.Instance.{Instance}
-use Rattle.p21_values.specs.Places.{Rises}
+use Rattle.p21_values.specs.InstancePlaces.{Rises}
 use Rattle.p21_values.specs.Attributes.{listed}
-use Rattle.p21_values.specs.Looking.{look}
+use Rattle.p21_values.specs.InstanceLookup.{look}
 use Rattle.p21_values.proofs.PlaceLemmas.{rising}
 use Rattle.ifc_units.specs.declared.scale.Scale.{Scale}
-use Rattle.ifc_units.specs.Units.{unit_power, projects, assignment_of, IsUnitAmong, IsOnly, RefersToOther, AssignsPower, IsLengthUnit, IsLeastNumber, LengthUnitFault}
+use Rattle.ifc_units.specs.Units.{projects, assignment_of, IsUnitAmong, IsOnly, RefersToOther, MakesScale, AssignsScale, IsLengthUnit, IsLeastNumber, LengthUnitFault}
+use Rattle.ifc_units.proofs.ScaleFacts.{one_made}
 
 -- the first that passes is the head of those that do
 
@@ -143,37 +144,44 @@ not_only world items id is other n h =
 pub one_only : (P : ℕ → Type 0) (a b : ℕ) → IsOnly P a → IsOnly P b → a ≡ b
 one_only P a b h k = k.only a h.holds
 
-power_read : (world : List Instance) (assignment unit : Instance) (id : ℕ) (power : ℤ) → IsOnly (IsUnitAmong world (listed assignment 0)) id → look world id ≡ Some unit → AssignsPower world assignment power
-    → unit_power unit ≡ Some power
-power_read world assignment unit id power only found h =
+scale_made : (world : List Instance) (assignment unit : Instance) (id : ℕ) (scale : Scale) → IsOnly (IsUnitAmong world (listed assignment 0)) id → look world id ≡ Some unit → AssignsScale world assignment scale
+    → MakesScale world unit scale
+scale_made world assignment unit id scale only found h =
     let same = one_only (IsUnitAmong world (listed assignment 0)) h.id id h.one_unit only in
     let f : look world id ≡ Some h.unit = subst (λ n. look world n ≡ Some h.unit) same h.found in
     let u : h.unit ≡ unit = cc in
-    subst (λ w. unit_power w ≡ Some power) u h.reads
+    subst (λ w. MakesScale world w scale) u h.makes
 
-pub power_none : (world : List Instance) (assignment unit : Instance) (id : ℕ) (r : Option ℤ) → IsOnly (IsUnitAmong world (listed assignment 0)) id → look world id ≡ Some unit → r ≡ unit_power unit
-    → IfNone r ((power : ℤ) → AssignsPower world assignment power → ⊥)
-power_none world assignment unit id (Some power) only found e = tt
-power_none world assignment unit id None only found e = λ power h. (let k = power_read world assignment unit id power only found h in cc)
+pub scale_none : (world : List Instance) (assignment unit : Instance) (id : ℕ) (r : Option Scale) → IsOnly (IsUnitAmong world (listed assignment 0)) id → look world id ≡ Some unit
+    → IfNone r ((scale : Scale) → MakesScale world unit scale → ⊥) → IfNone r ((scale : Scale) → AssignsScale world assignment scale → ⊥)
+scale_none world assignment unit id (Some scale) only found h = tt
+scale_none world assignment unit id None only found h = λ scale k. h scale (scale_made world assignment unit id scale only found k)
 
-pub one_power : (world : List Instance) (assignment : Instance) (a b : ℤ) → AssignsPower world assignment a → AssignsPower world assignment b → a ≡ b
-one_power world assignment a b h k = let r = power_read world assignment k.unit k.id a k.one_unit k.found h in let s = k.reads in cc
+one_scale : (world : List Instance) (assignment : Instance) (a b : Scale) → AssignsScale world assignment a → AssignsScale world assignment b → a ≡ b
+one_scale world assignment a b h k = one_made world k.unit a b (scale_made world assignment k.unit k.id a k.one_unit k.found h) k.makes
 
 -- the one project of a file
 
-pub same_assignment : (world : List Instance) (project assignment : Instance) (scale : Scale) → projects world ≡ project ∷ [] → assignment_of world project ≡ Some assignment → IsLengthUnit world scale → AssignsPower world assignment scale.power
+same_assignment : (world : List Instance) (project assignment : Instance) (scale : Scale) → projects world ≡ project ∷ [] → assignment_of world project ≡ Some assignment → IsLengthUnit world scale → AssignsScale world assignment scale
 same_assignment world project assignment scale one is h =
     let o = h.one_project in
     let p : h.project ≡ project = cc in
     let a : assignment_of world project ≡ Some h.assignment = subst (λ q. assignment_of world q ≡ Some h.assignment) p h.assigned in
     let same : h.assignment ≡ assignment = cc in
-    subst (λ q. AssignsPower world q scale.power) same h.makes
+    subst (λ q. AssignsScale world q scale) same h.makes
+
+pub unit_some : (world : List Instance) (project assignment : Instance) (r : Option Scale) → projects world ≡ project ∷ [] → assignment_of world project ≡ Some assignment → IfSome r (AssignsScale world assignment)
+    → IfSome r (IsLengthUnit world)
+unit_some world project assignment None one is h = tt
+unit_some world project assignment (Some scale) one is h = record { project = project; one_project = one; assignment = assignment; assigned = is; makes = h }
+
+pub unit_none : (world : List Instance) (project assignment : Instance) (r : Option Scale) → projects world ≡ project ∷ [] → assignment_of world project ≡ Some assignment
+    → IfNone r ((scale : Scale) → AssignsScale world assignment scale → ⊥) → IfNone r ((scale : Scale) → IsLengthUnit world scale → ⊥)
+unit_none world project assignment (Some scale) one is h = tt
+unit_none world project assignment None one is h = λ scale k. h scale (same_assignment world project assignment scale one is k)
 
 pub one_unit : (world : List Instance) (a b : Scale) → IsLengthUnit world a → IsLengthUnit world b → a ≡ b
-one_unit world a b h k =
-    let e = one_power world k.assignment a.power b.power (same_assignment world k.project k.assignment a k.one_project k.assigned h) k.makes in
-    let r : record { power = a.power } ≡ b = rw e refl in
-    r
+one_unit world a b h k = one_scale world k.assignment a b (same_assignment world k.project k.assignment a k.one_project k.assigned h) k.makes
 
 least_below : (ps : List Instance) (a b : ℕ) → Any (λ (i : Instance). i.id ≡ a) ps → All (λ (i : Instance). b ≤ i.id) ps → b ≤ a
 least_below ps a b h low = subst (λ n. b ≤ n) (ap (λ (i : Instance). i.id) h.3 ∙ h.4) (low h.0 h.1 h.2)

@@ -1,12 +1,14 @@
 -- Units that are converted to one of the international system: the inch and the foot (IFC4 ADD2 TC1, IfcConversionBasedUnit,
 -- IfcMeasureWithUnit).
-use Rattle.std.specs.Prelude.{◌≡◌, ℕ, ◌*◌, nat_lt, Bool, if◌then◌else◌, ℤ, pos, List, Option, Some, None}
+use Rattle.std.specs.Prelude.{◌≡◌, ℕ, ◌*◌, nat_lt, Bool, true, if◌then◌else◌, ℤ, pos, List, Option, Some, None}
 use Rattle.std.specs.List.{slice_get}
 use Rattle.bim_text.specs.declared.decimal.Decimal.{Decimal}
-use Rattle.bim_text.specs.Values.{Scaled, denominator, raised}
+use Rattle.bim_text.specs.ScaledNumbers.{Scaled, denominator, raised}
 use Rattle.bim_text.specs.Decimals.{Reads, value_of}
 use Rattle.p21_values.specs.declared.value.Value21.{Value21}
 use Rattle.p21_values.specs.declared.value.Instance.{Instance}
+use Rattle.ifc_instances.specs.declared.entity.Entity.TheVariants as entity
+use Rattle.ifc_instances.specs.EntityLookup.{is_a}
 use Rattle.p21_values.specs.Attributes.{target_at}
 use Rattle.p21_values.specs.Values.{measure_of}
 use Rattle.ifc_units.specs.declared.conversion.TheConstants.{INCH, FOOT}
@@ -23,8 +25,9 @@ tenths_of x =
     if is_about (INCH * 100000) x then Some INCH
     else (if is_about (FOOT * 100000) x then Some FOOT else None)
 
--- a measure in a metre with a prefix is that length in millimetres
+-- an instance is a measure, and its value in its unit, which is a metre with a prefix, is that length in millimetres
 pub record IsMeasure (world : List Instance) (measure : Instance) (length : Scaled) : Type 0 where
+  pub kind : is_a entity.Measure measure ≡ true
   pub value : Value21
   pub said : slice_get measure.values 0 ≡ Some value
   pub bytes : List ℕ

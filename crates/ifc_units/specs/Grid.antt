@@ -4,7 +4,7 @@ use Rattle.std.specs.Prelude.{◌≡◌, ℕ, ◌*◌, ◌<◌, ◌≤◌, ℤ, 
 use Rattle.bim_model.specs.declared.upload.Mode.{Mode}
 use Rattle.bim_model.specs.declared.upload.Mode.TheVariants.{Exact, Snap}
 use Rattle.bim_text.specs.declared.decimal.Decimal.{Decimal}
-use Rattle.bim_text.specs.Values.{Scaled, numerator, denominator, raised}
+use Rattle.bim_text.specs.ScaledNumbers.{Scaled, numerator, denominator, raised}
 use Rattle.bim_text.specs.Decimals.{value_of}
 use Rattle.ifc_units.specs.declared.scale.Scale.{Scale}
 

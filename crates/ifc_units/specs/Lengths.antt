@@ -5,13 +5,13 @@ use Rattle.bim_model.specs.declared.geometry.Point.{Point}
 use Rattle.bim_model.specs.declared.geometry.TheConstants.{PER_MM, FARTHEST}
 use Rattle.bim_model.specs.declared.upload.Mode.{Mode}
 use Rattle.bim_text.specs.declared.decimal.Decimal.{Decimal}
-use Rattle.bim_text.specs.Values.{Scaled}
+use Rattle.bim_text.specs.ScaledNumbers.{Scaled}
 use Rattle.bim_text.specs.Decimals.{Reads}
 use Rattle.p21_values.specs.declared.value.Value21.{Value21}
 use Rattle.p21_values.specs.declared.value.Instance.{Instance}
 use Rattle.ifc_instances.specs.declared.entity.Entity.TheVariants as entity
 use Rattle.p21_values.specs.Values.{number_of, items_of}
-use Rattle.ifc_instances.specs.Looking.{is_a}
+use Rattle.ifc_instances.specs.EntityLookup.{is_a}
 use Rattle.ifc_units.specs.declared.scale.Scale.{Scale}
 use Rattle.ifc_units.specs.declared.length_error.GridFault.{GridFault}
 use Rattle.ifc_units.specs.declared.length_error.GridFault.TheVariants.{OffGrid, TooFar}

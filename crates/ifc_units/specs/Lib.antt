@@ -1,7 +1,7 @@
-pub mod Faults
+pub mod LengthRefusals
 pub mod Grid
 pub mod Metres
 pub mod Conversions
 pub mod Units
 pub mod Lengths
-pub mod Sizes
+pub mod RoundedLengths

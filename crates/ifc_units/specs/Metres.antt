@@ -1,11 +1,11 @@
 -- Metres with a prefix as units of length (IFC4 ADD2 TC1, IfcSIUnit). Only values are looked at, also of instances that lack their own form.
-use Rattle.std.specs.Prelude.{◌&&◌, ◌≤ℤ◌, ℕ, Bool, if◌then◌else◌, ℤ, pos, negsuc, codes, List, [], ◌∷◌, Option, Some, None, option_and_then, option_map}
+use Rattle.std.specs.Prelude.{◌&&◌, ◌≤ℤ◌, ℕ, if◌then◌else◌, ℤ, pos, negsuc, codes, List, [], ◌∷◌, Option, Some, None, option_and_then, option_map}
 use Rattle.std.specs.List.{slice_get, find}
 use Rattle.std.specs.Str.{bytes_eq}
 use Rattle.p21_values.specs.declared.value.Value21.{Value21}
 use Rattle.p21_values.specs.declared.value.Instance.{Instance}
 use Rattle.ifc_instances.specs.declared.entity.Entity.TheVariants as entity
-use Rattle.ifc_instances.specs.Looking.{is_a, says}
+use Rattle.ifc_instances.specs.EntityLookup.{is_a, says}
 use Rattle.p21_values.specs.Values.{enumeration_of, is_absent}
 
 -- the prefixes, each with the power of ten of a millimetre that a metre is with it

@@ -1,6 +1,6 @@
 -- The length unit of a file (IFC4 ADD2 TC1, IfcProject, IfcUnitAssignment, IfcSIUnit). A world is the list of its instances. Only values are
 -- looked at, also of instances that lack their own form.
-use Rattle.std.specs.Prelude.{◌≡◌, ◌≢◌, ℕ, ◌≤◌, ◌&&◌, ◌||◌, Bool, true, ℤ, negsuc, codes, List, [], ◌∷◌, Option, Some, None, All, Any}
+use Rattle.std.specs.Prelude.{◌≡◌, ◌≢◌, ℕ, ◌≤◌, ◌&&◌, ◌||◌, Bool, true, if◌then◌else◌, negsuc, codes, List, [], ◌∷◌, Option, Some, None, All, Any}
 use Rattle.std.specs.Bool.{MatchBool}
 use Rattle.std.specs.List.{filter}
 use Rattle.bim_model.specs.declared.upload.UploadFault.{UploadFault}
@@ -9,10 +9,10 @@ use Rattle.p21_values.specs.declared.value.Value21.{Value21}
 use Rattle.p21_values.specs.declared.value.Instance.{Instance}
 use Rattle.ifc_instances.specs.declared.entity.Entity.TheVariants as entity
 use Rattle.p21_values.specs.Attributes.{listed, target_at}
-use Rattle.p21_values.specs.Looking.{look}
-use Rattle.ifc_instances.specs.Looking.{is_a, says}
+use Rattle.p21_values.specs.InstanceLookup.{look}
+use Rattle.ifc_instances.specs.EntityLookup.{is_a, says}
 use Rattle.p21_values.specs.Values.{reference_of}
-use Rattle.bim_text.specs.Values.{Scaled}
+use Rattle.bim_text.specs.ScaledNumbers.{Scaled}
 use Rattle.ifc_units.specs.declared.scale.Scale.{Scale}
 use Rattle.ifc_units.specs.Metres.{metric_power}
 use Rattle.ifc_units.specs.Conversions.{tenths_of, IsMeasure}

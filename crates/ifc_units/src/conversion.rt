@@ -1,6 +1,6 @@
 //! Units that are converted to one of the international system.
 ghost use Rattle.std.specs.Prelude.{◌≡◌, ◌*◌, ◌%◌, ◌<◌, ◌≤◌, ◌≤ℤ◌, pos, negsuc, Some, None, IfSome, IfNone, MatchOption};
-ghost use Rattle.bim_text.specs.Values.{Scaled, raised};
+ghost use Rattle.bim_text.specs.ScaledNumbers.{Scaled, raised};
 ghost use Rattle.bim_text.specs.Decimals.{value_of};
 ghost use Rattle.ifc_units.specs.Metres.{IsNear};
 ghost use Rattle.ifc_units.specs.Conversions.{is_about, tenths_of, IsMeasure};
@@ -9,6 +9,7 @@ ghost use Rattle.ifc_units.specs.Units.{IsConverted};
 use crate::metres::metric_power;
 use crate::scale::Scale;
 use bim_text::Decimal;
+use ifc_instances::Entity;
 use p21_table::{Exchange, InstanceRef};
 use std::cmp::Ordering;
 
@@ -26,7 +27,6 @@ struct Measured {
 }
 
 // Whether a length in millimetres lies less than a millionth from so many millionths.
-#[tactic(auto, using(crate::proofs::Abouts::abouts), unfolding(crate::specs::Conversions::is_about))]
 fn is_about(millionths: u64, length: Measured) -> bool
     requires some { 0 < millionths }
     requires few { millionths < 1000000000 }
@@ -67,13 +67,16 @@ fn tenths_of(length: Measured) -> Option<u64>
     None
 }
 
-// The length in millimetres that a measure is.
-fn measured(exchange: &Exchange, measure: &InstanceRef<'_>) -> Option<Measured>
+// The length in millimetres that an instance is, where it is a measure in a metre with a prefix.
+fn measured_length(exchange: &Exchange, measure: &InstanceRef<'_>) -> Option<Measured>
     ensures near { IfSome result (λ m. IsNear m.power) }
     ensures some { IfSome result (λ m. IsMeasure exchange.now measure.now
         (raised (value_of m.number) m.power)) }
     ensures none { IfNone result ((length : Scaled) → IsMeasure exchange.now measure.now length → ⊥) }
 {
+    if !Entity::Measure.includes(measure) {
+        return None;
+    }
     let Some(value) = measure.attribute(0) else {
         return None;
     };
@@ -100,7 +103,7 @@ pub fn converted_scale(exchange: &Exchange, unit: &InstanceRef<'_>) -> Option<Sc
     let Some(measure) = exchange.target_at(unit, 3) else {
         return None;
     };
-    let Some(length) = measured(exchange, &measure) else {
+    let Some(length) = measured_length(exchange, &measure) else {
         return None;
     };
     match tenths_of(length) {

@@ -1,9 +1,9 @@
 //! Lengths on the grid.
 ghost use Rattle.std.specs.Prelude.{◌≡◌, ℕ, ◌^◌, ◌<◌, ◌≤◌, ℤ, ◌+ℤ◌, unsigned_abs, IfOk, IfErr, Err};
-ghost use Rattle.bim_text.specs.Values.{signed};
+ghost use Rattle.bim_text.specs.ScaledNumbers.{signed};
 ghost use Rattle.ifc_units.specs.Grid.{IsGridNumber, length_of};
 ghost use Rattle.ifc_units.specs.Lengths.{units, reach};
-ghost use Rattle.ifc_units.specs.Sizes.{IsSizeOf};
+ghost use Rattle.ifc_units.specs.RoundedLengths.{IsSizeOf};
 
 use crate::length_error::GridFault;
 use crate::scale::Scale;

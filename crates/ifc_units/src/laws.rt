@@ -4,7 +4,7 @@ ghost use Rattle.bim_model.specs.declared.geometry.Point.{Point};
 ghost use Rattle.bim_model.specs.declared.upload.Mode.{Mode};
 ghost use Rattle.bim_model.specs.declared.upload.UploadFault.{UploadFault};
 ghost use Rattle.bim_model.specs.Models.{IsInReach};
-ghost use Rattle.bim_text.specs.Values.{Scaled};
+ghost use Rattle.bim_text.specs.ScaledNumbers.{Scaled};
 ghost use Rattle.p21_values.specs.declared.value.Value21.{Value21};
 ghost use Rattle.p21_values.specs.declared.value.Instance.{Instance};
 ghost use Rattle.ifc_units.specs.declared.scale.Scale.{Scale};

@@ -20,7 +20,7 @@ pub enum LengthError {
 
 impl LengthError {
     ghost use Rattle.std.specs.Prelude.{◌≡◌};
-    ghost use Rattle.ifc_units.specs.Faults.{fault_in};
+    ghost use Rattle.ifc_units.specs.LengthRefusals.{fault_in};
 
     /// The fault; none of what can't be read.
     pub fn fault(self) -> Option<GridFault>

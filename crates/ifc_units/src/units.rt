@@ -4,7 +4,7 @@ ghost use Rattle.std.specs.Bool.{MatchBool};
 ghost use Rattle.bim_model.specs.declared.upload.UploadFault.{UploadFault};
 ghost use Rattle.p21_values.specs.declared.value.Instance.{Instance};
 ghost use Rattle.ifc_instances.specs.declared.entity.Entity.TheVariants.{Project};
-ghost use Rattle.ifc_instances.specs.Looking.{is_a};
+ghost use Rattle.ifc_instances.specs.EntityLookup.{is_a};
 ghost use Rattle.ifc_units.specs.declared.scale.Scale.{Scale};
 ghost use Rattle.ifc_units.specs.Units.{is_length_unit, projects, assignment_of, RefersToUnit, IsUnitAmong, IsOnly, RefersToOther, MakesScale, AssignsScale, IsLengthUnit, IsLeastNumber, LengthUnitFault};
 

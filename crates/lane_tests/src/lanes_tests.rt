@@ -2,7 +2,7 @@
 ghost use Rattle.std.specs.Prelude.{◌≡◌, true, Some, IfOk, IfSome, All, map, vec_len};
 ghost use Rattle.book_turn.specs.Passes.{IsSingle};
 ghost use Rattle.bim_net.specs.Hosts.{AreNew};
-ghost use Rattle.bim_net.specs.Seen.{IsNew};
+ghost use Rattle.bim_net.specs.ConnectionViews.{IsNew};
 ghost use Rattle.bim_net.specs.Stores.{door_of};
 
 use bim_io::MemClock;

@@ -4,8 +4,8 @@ ghost use Rattle.book_turn.specs.Passes.{BelongsTo};
 ghost use Rattle.federation_book.specs.AnyTime.{IsFree};
 
 use bim_model::{
-    ClassTest, Element, Guid, Items, Model, ModelTest, PER_MM, Point, Rule, RuleKind, Rules,
-    Shared, StoreyTest, Text, Triangle, id_of,
+    ClassTest, Distance, Element, Guid, Items, Model, ModelTest, PER_MM, Point, Rule, RuleKind,
+    Rules, Shared, StoreyTest, Text, Triangle, id_of,
 };
 use bim_net::{FreeGate, Gate};
 use book_history::{BookRequest, Limits, ReplyBody, Wanted};
@@ -87,7 +87,9 @@ fn to_set_rules(alloc: Global) -> Option<BookRequest>
         storey: StoreyTest::Any,
         level: None,
         models: ModelTest::Any,
-        kind: RuleKind::Clash { distance: 50 },
+        kind: RuleKind::Clash {
+            distance: Distance::new(50),
+        },
     };
     rules.push(rule).ok()?;
     Some(BookRequest::SetRules {

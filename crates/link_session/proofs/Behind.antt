@@ -1,6 +1,6 @@
 -- A step of a session with the work behind it.
 use Rattle.std.proofs.Common.{ℕ, inl, inr, sym, subst, arith}
-use Rattle.bim_io.specs.Seen.{Outside, EndsEmpty}
+use Rattle.bim_io.specs.StreamViews.{Outside, EndsEmpty}
 use Rattle.book_passes.specs.Lessons.{CallerSeen}
 use Rattle.bim_session.specs.declared.end.SessionEnd.{SessionEnd}
 use Rattle.bim_session.specs.Talking.{TalkState}

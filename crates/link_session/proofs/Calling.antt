@@ -1,10 +1,10 @@
 -- The book was called, and its response written.
 use Rattle.std.proofs.Common.{◌≡◌, ℕ, List, Option, Some, None, IsSome, IfSome, IfOk, IfErr, Result, Ok, Err, inl, inr, refl, ap}
-use Rattle.bim_io.specs.Seen.{SinkSeen}
+use Rattle.bim_io.specs.StreamViews.{SinkSeen}
 use Rattle.book_turn.specs.Passes.{KeepsNumbers}
 use Rattle.book_turn.specs.declared.call_fault.CallFault.{CallFault}
 use Rattle.book_turn.specs.declared.call_fault.CallFault.TheVariants.{Memory, PassSpent}
-use Rattle.book_turn.specs.Faults.{Failed}
+use Rattle.book_turn.specs.TurnFaults.{Failed}
 use Rattle.book_history.specs.declared.limits.Settings.{Settings}
 use Rattle.book_history.specs.declared.requests.BookRequest.{BookRequest}
 use Rattle.bim_session.specs.declared.end.SessionEnd.{SessionEnd}

@@ -1,7 +1,7 @@
 -- A session so far ends.
 use Rattle.std.proofs.Common.{◌≡◌, ◌⊎◌, ℕ, List, [], ◌++◌, length, true, false, Some, None, inl, inr, sym, ap, ◌∙◌, subst, refl, append-nil, arith}
 use Rattle.bim_io.specs.Causes.{Rose, ComesOfFault}
-use Rattle.bim_io.specs.Seen.{Outside, EndsEmpty, Exchanges}
+use Rattle.bim_io.specs.StreamViews.{Outside, EndsEmpty, Exchanges}
 use Rattle.bim_io.proofs.Calls.{exchanges_none, exchanges_trans}
 use Rattle.http_frame.specs.Events.{IsRest, IsTold}
 use Rattle.book_turn.specs.declared.limits.TheConstants.{MOST_TURNS}

@@ -12,9 +12,9 @@ use Rattle.book_history.specs.declared.changes.Change.TheVariants as change
 use Rattle.bcf_topics.specs.declared.topic.Topic.{Topic}
 use Rattle.bcf_topics.specs.declared.comment.Comment.{Comment}
 use Rattle.bcf_topics.specs.Comments.{comments_on}
-use Rattle.bcf_viewpoints.specs.Views.{views_on}
+use Rattle.bcf_viewpoints.specs.Viewpoints.{views_on}
 use Rattle.book_topics.specs.Boards.{topic_at, comment_at, view_at}
-use Rattle.book_topics.specs.Named.{topic_named, comment_named, view_named}
+use Rattle.book_topics.specs.TopicIdentifiers.{topic_named, comment_named, view_named}
 use Rattle.book_history.specs.declared.book_fault.BookFault.{BookFault}
 use Rattle.book_history.specs.declared.book_fault.BookFault.TheVariants.{NoTopic, NoComment, NoViewpoint}
 use Rattle.book_history.specs.declared.replies.ReplyBody.{ReplyBody}
@@ -34,15 +34,15 @@ use Rattle.book_history.proofs.Histories.{AreOf, AreAbove, added_of, before_all,
 use Rattle.bcf_http.specs.declared.answers.Answer.TheVariants as answer
 use Rattle.bcf_http.specs.ReplyKinds.{kind_of}
 use Rattle.bcf_http.specs.Answers.{IsResponse}
-use Rattle.bim_io.specs.Seen.{Outside}
+use Rattle.bim_io.specs.StreamViews.{Outside}
 use Rattle.bim_session.specs.declared.notes.Notes.{Notes}
-use Rattle.bim_session.specs.Notes.{project_read, AsksKept}
+use Rattle.bim_session.specs.ShelfNotes.{project_read, AsksKept}
 use Rattle.bim_session.specs.Works.{Standing, Printed, IsTaken, last_turn}
 use Rattle.bim_session.specs.Session.{Means, TakesTurn, Answers, AnswersEvent, Answered, asking, behind, closes_after, requests, printed_after}
 use Rattle.bim_session.specs.Talking.{TalkState, BookReceipt, AnswersAtOnce, AnswersCall, asks_change, is_refusal, changes_nothing, waiting_for}
 use Rattle.bim_session.proofs.Sessions.{Answered_grown, answered_last, event_grown, entry_new}
 use Rattle.book_passes.specs.Lessons.{CallerSeen, Learns, stamp_in, turn_of, TakesTurn as Turned}
-use Rattle.book_passes.specs.Laws.{TakesCall}
+use Rattle.book_passes.specs.LessonLaws.{TakesCall}
 use Rattle.book_passes.proofs.Learning.{learns_turn}
 use Rattle.link_session.specs.Callers.{LearnsBy}
 use Rattle.link_session.proofs.Kept.{Keeps, keeps_grown, keeps_noted, shelved, unkept}

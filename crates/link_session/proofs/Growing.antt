@@ -2,7 +2,7 @@
 use Rattle.std.proofs.Common.{◌≡◌, ◌≢◌, ◌⊎◌, ℕ, ◌+◌, ◌<◌, ◌≤◌, ◌==◌, ◌||◌, List, [], ◌∷◌, ◌++◌, length, Bool, true, false, Option, Some, None, IsTrue, if◌then◌else◌, inl, inr, sym, ◌∙◌, ap, subst, refl, append-nil, append_assoc, add_assoc, arith}
 use Rattle.std.proofs.lemmas.Bool.Decides.{eqb_tells}
 use Rattle.bim_io.specs.Causes.{WithinMost}
-use Rattle.bim_io.specs.Seen.{Outside, Exchanges}
+use Rattle.bim_io.specs.StreamViews.{Outside, Exchanges}
 use Rattle.bim_io.proofs.Calls.{exchanges_none, exchanges_trans}
 use Rattle.http_frame.specs.Events.{Event, IsRest, IsTold}
 use Rattle.http_frame.specs.Events as frame

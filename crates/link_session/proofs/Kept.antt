@@ -26,7 +26,7 @@ use Rattle.book_history.specs.Requests.{Outcome, Answer, in_project, clashes_rea
 use Rattle.book_history.specs.Runs.{Step}
 use Rattle.book_history.proofs.Histories.{AreAbove, before_all, at_turn-new}
 use Rattle.book_passes.specs.Lessons.{CallerSeen, AllOf, stamp_in, turn_of}
-use Rattle.book_passes.specs.Laws.{TakesCall}
+use Rattle.book_passes.specs.LessonLaws.{TakesCall}
 use Rattle.bcf_http.specs.declared.asked.RequestFault.{RequestFault}
 use Rattle.bcf_http.specs.declared.asked.Action.{Action}
 use Rattle.bcf_http.specs.declared.asked.Action.TheVariants.{Call, Build}
@@ -35,7 +35,7 @@ use Rattle.bcf_http.specs.ReplyKinds.{kind_of}
 use Rattle.bcf_http.specs.Asked.{asked_by}
 use Rattle.bcf_http.specs.Answers.{IsResponse}
 use Rattle.bim_session.specs.declared.notes.Notes.{Notes}
-use Rattle.bim_session.specs.Notes.{project_read, set_told, put_set, AsksKept, Noted}
+use Rattle.bim_session.specs.ShelfNotes.{project_read, set_told, put_set, AsksKept, Noted}
 use Rattle.bim_session.specs.Works.{Standing, Printed}
 use Rattle.bim_session.specs.Session.{Means, MeansCall, IsKept, IsShelved, asking, up_to_printed, with_set, printed_after, closes_after}
 use Rattle.bim_session.specs.Talking.{AnswersKept, KeepsNone, waiting_for}

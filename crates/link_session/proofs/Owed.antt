@@ -1,6 +1,6 @@
 -- A request was answered: the work behind the answer, done or not.
 use Rattle.std.proofs.Common.{◌≡◌, ◌⊎◌, ℕ, ◌+◌, ◌≤◌, List, [], ◌∷◌, ◌++◌, false, Some, None, inl, inr, ◌∙◌, ap, subst, refl, append_assoc, arith}
-use Rattle.bim_io.specs.Seen.{Outside, EndsEmpty, Exchanges}
+use Rattle.bim_io.specs.StreamViews.{Outside, EndsEmpty, Exchanges}
 use Rattle.http_frame.specs.declared.types.HttpRequest.{HttpRequest}
 use Rattle.http_frame.specs.Events as frame
 use Rattle.http_frame.specs.Framers.{Stands}

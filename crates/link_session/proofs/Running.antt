@@ -1,6 +1,6 @@
 -- A session from its first step to its last.
 use Rattle.std.proofs.Common.{◌≡◌, ℕ, [], false, Option, Some, None, sym, ◌∙◌, subst}
-use Rattle.bim_io.specs.Seen.{Outside, EndsEmpty}
+use Rattle.bim_io.specs.StreamViews.{Outside, EndsEmpty}
 use Rattle.book_passes.specs.Lessons.{CallerSeen}
 use Rattle.http_frame.specs.Framers.{Stands}
 use Rattle.bim_session.specs.declared.end.SessionEnd.{SessionEnd}

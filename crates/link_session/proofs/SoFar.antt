@@ -1,6 +1,6 @@
 -- What holds between two steps of a session.
 use Rattle.std.specs.Prelude.{◌≡◌, ◌⊎◌, ◌<◌, ◌≤◌, ℕ, ◌+◌, ◌++◌, List, [], Bool, true, false, Option, Some, None, IsTrue}
-use Rattle.bim_io.specs.Seen.{Outside, EndsEmpty, Exchanges}
+use Rattle.bim_io.specs.StreamViews.{Outside, EndsEmpty, Exchanges}
 use Rattle.http_frame.specs.Events.{Event}
 use Rattle.http_frame.specs.Framers.{Stands}
 use Rattle.book_history.specs.declared.limits.Settings.{Settings}
@@ -14,7 +14,7 @@ use Rattle.bim_session.specs.Replay.{ReadsAsNeeded}
 use Rattle.bim_session.specs.Talking.{TalkState}
 use Rattle.link_session.specs.Callers.{CallerLaws, start_of}
 use Rattle.link_session.specs.Loop.{Going}
-use Rattle.link_session.specs.Serving.{Serves}
+use Rattle.link_session.specs.CallerSessions.{Serves}
 use Rattle.link_session.specs.declared.session.Progress.{Progress}
 use Rattle.link_session.specs.declared.session.Progress.TheVariants.{Again, End}
 use Rattle.link_session.proofs.Kept.{Keeps}

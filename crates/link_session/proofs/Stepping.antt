@@ -1,6 +1,6 @@
 -- Where a session stands after one step.
 use Rattle.std.proofs.Common.{◌≡◌, ◌⊎◌, ℕ, ◌+◌, ◌≤◌, List, [], ◌∷◌, ◌++◌, Bool, true, false, Option, Some, None, Result, Ok, Err, inl, inr, sym, ◌∙◌, ap, subst, refl, append-nil, arith}
-use Rattle.bim_io.specs.Seen.{SourceSeen, SinkSeen, ClockSeen, Outside, EndsEmpty, SourceGives, SinkTakes, ClockGives, Exchanges}
+use Rattle.bim_io.specs.StreamViews.{SourceSeen, SinkSeen, ClockSeen, Outside, EndsEmpty, SourceGives, SinkTakes, ClockGives, Exchanges}
 use Rattle.bim_io.proofs.Calls.{gives_none, takes_none}
 use Rattle.http_frame.specs.declared.types.HttpRequest.{HttpRequest}
 use Rattle.http_frame.specs.declared.types.FrameFault.{FrameFault}
@@ -21,7 +21,7 @@ use Rattle.bim_session.specs.declared.notes.Notes.{Notes}
 use Rattle.bim_session.specs.declared.want.Waiting.{Waiting}
 use Rattle.bim_session.specs.declared.want.Want.{Want}
 use Rattle.bim_session.specs.declared.want.Want.TheVariants.{More, Write, Call, Leave}
-use Rattle.bim_session.specs.Notes.{project_read, AsksKept}
+use Rattle.bim_session.specs.ShelfNotes.{project_read, AsksKept}
 use Rattle.bim_session.specs.Works.{Printed}
 use Rattle.bim_session.specs.Session.{Stop, Reads, AnswersEvent, Ends, IsNext, Means, TakesUnanswered, TakesTurn, NeedsTurn, asking, closes_after, counted, requests}
 use Rattle.bim_session.specs.Session as session

@@ -12,7 +12,7 @@ use Rattle.book_history.specs.History.{state_of, newest_of}
 use Rattle.book_history.specs.Refusals.{wanted_in, not_yet, dropped, pending}
 use Rattle.book_history.specs.Requests.{Answer, unless, clashes_read, body_of}
 use Rattle.book_history.proofs.States.{within}
-use Rattle.bim_session.specs.Notes.{set_told}
+use Rattle.bim_session.specs.ShelfNotes.{set_told}
 use Rattle.book_history.proofs.Staying.{Settled}
 
 some_is : (x y : ℕ × Version) → Some x ≡ Some y → x ≡ y

@@ -1,7 +1,7 @@
 -- What a pass has come to know, with the steps of its session.
 use Rattle.std.proofs.Common.{◌≡◌, ◌||◌, ℕ, ◌<◌, ◌≤◌, List, [], ◌∷◌, ◌++◌, true, false, if◌then◌else◌, Result, Ok, Err, inl, inr, refl, sym, ◌∙◌, ap, subst, arith, append_assoc, append-nil, eq-eqb}
 use Rattle.book_turn.specs.declared.object.Stamp.{Stamp}
-use Rattle.book_turn.specs.Numbers.{has}
+use Rattle.book_turn.specs.NumberLists.{has}
 use Rattle.book_turn.specs.Entries.{AllAfter, calls_by, listed}
 use Rattle.book_turn.proofs.Prefixes.{calls_by-append}
 use Rattle.book_history.specs.declared.limits.Settings.{Settings}

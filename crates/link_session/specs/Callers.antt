@@ -10,7 +10,7 @@ use Rattle.book_history.specs.declared.requests.BookRequest.{BookRequest}
 use Rattle.book_history.specs.History.{of_turn}
 use Rattle.book_history.specs.Runs.{Step}
 use Rattle.book_passes.specs.Lessons.{CallerSeen, TakesTurn, Learns, own_of, stamp_in}
-use Rattle.book_passes.specs.Laws.{TakesCall}
+use Rattle.book_passes.specs.LessonLaws.{TakesCall}
 use Rattle.bim_session.specs.Works.{Standing, Works, WorksShort, last_turn}
 use Rattle.bim_session.specs.Talking.{BookReceipt}
 

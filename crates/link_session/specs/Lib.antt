@@ -1,3 +1,3 @@
 pub mod Callers
-pub mod Serving
+pub mod CallerSessions
 pub mod Loop

@@ -2,7 +2,7 @@
 use Rattle.std.specs.Prelude.{◌≡◌, ◌⊎◌, ℕ, ◌<◌, ◌≤◌, List, [], length, Option, Some, Result, Ok, Err, IsTrue}
 use Rattle.std.specs.declared.alloc.AllocError.{AllocError}
 use Rattle.bim_io.specs.Causes.{Rose}
-use Rattle.bim_io.specs.Seen.{SourceSeen, SinkSeen, Outside, SourceGives, SinkTakes}
+use Rattle.bim_io.specs.StreamViews.{SourceSeen, SinkSeen, Outside, SourceGives, SinkTakes}
 use Rattle.book_history.specs.declared.limits.Settings.{Settings}
 use Rattle.book_turn.specs.declared.call_fault.CallFault.{CallFault}
 use Rattle.book_history.specs.declared.requests.BookRequest.{BookRequest}

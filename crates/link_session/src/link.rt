@@ -1,10 +1,10 @@
 //! One session over one connection, by a pass.
 ghost use Rattle.std.specs.Prelude.{Some};
-ghost use Rattle.bim_io.specs.Seen.{outside};
+ghost use Rattle.bim_io.specs.StreamViews.{outside};
 ghost use Rattle.book_turn.specs.Passes.{IsSingle};
 ghost use Rattle.book_passes.specs.Lessons.{caller_of};
 ghost use Rattle.link_session.specs.Callers.{GoesByPass};
-ghost use Rattle.link_session.specs.Serving.{Serves};
+ghost use Rattle.link_session.specs.CallerSessions.{Serves};
 
 use crate::by_turn::ByTurn;
 use crate::session::run_session;

@@ -1,9 +1,9 @@
 //! One session over a source and a sink.
 ghost use Rattle.std.specs.Prelude.{◌≡◌, [], false, None, IsSome};
-ghost use Rattle.bim_io.specs.Seen.{outside};
+ghost use Rattle.bim_io.specs.StreamViews.{outside};
 ghost use Rattle.bcf_http.specs.Asked.{BringsNone};
 ghost use Rattle.link_session.specs.Callers.{CallerLaws};
-ghost use Rattle.link_session.specs.Serving.{Serves};
+ghost use Rattle.link_session.specs.CallerSessions.{Serves};
 ghost use Rattle.link_session.specs.Loop.{Reading, Writing, Called, StepsOn, WorksOn, StepsAndWorks};
 
 use crate::caller::Caller;

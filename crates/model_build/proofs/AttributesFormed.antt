@@ -18,13 +18,13 @@ use Rattle.ifc_schema.specs.declared.form.Count.{Count}
 use Rattle.ifc_schema.specs.declared.form.Shape.{Shape}
 use Rattle.ifc_schema.specs.declared.form.Need.TheVariants.{Must, OrAbsent}
 use Rattle.ifc_schema.specs.declared.form.When.{When}
-use Rattle.ifc_schema.specs.Words.{IsNumber, IsWhole}
+use Rattle.ifc_schema.specs.AttributeWords.{IsNumber, IsWhole}
 use Rattle.ifc_schema.specs.Forms.{fits, holds, followed}
-use Rattle.ifc_schema.specs.Table.{row_of, attribute, row_at, row_or_none}
+use Rattle.ifc_schema.specs.AttributeTable.{row_of, attribute, row_at, row_or_none}
 use Rattle.p21_values.specs.Values.{number_of, reference_of, items_of, is_absent}
-use Rattle.p21_values.specs.Looking.{look}
-use Rattle.ifc_instances.specs.Looking.{entity_at, is_a}
-use Rattle.ifc_schema.specs.Bodies.{applies}
+use Rattle.p21_values.specs.InstanceLookup.{look}
+use Rattle.ifc_instances.specs.EntityLookup.{entity_at, is_a}
+use Rattle.ifc_schema.specs.BodyRepresentations.{applies}
 use Rattle.ifc_schema.specs.Flaws.{LeafFlaw, NumberFlaw, WholeFlaw, ItemsFlaw, ListFlaw, ShapeFlaw, PlaceFlaw, AttributeFlaw, InstanceFlaw, bad_unless, target_flaw, wanted_flaw, any_flaw, reference_flaw}
 use Rattle.ifc_schema.specs.Used.{Used, named, LeadsTo, StandsIn}
 use Rattle.ifc_schema.specs.Surveys.{UsedFlaw}

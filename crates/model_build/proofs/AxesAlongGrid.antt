@@ -4,7 +4,7 @@ use Rattle.std.specs.Bool.{MatchBool}
 use Rattle.std.specs.Option.{IfSome, IfNone}
 use Rattle.p21_values.specs.declared.value.Instance.{Instance}
 use Rattle.ifc_instances.specs.declared.entity.Entity.TheVariants.{AxisPlacement, Operator}
-use Rattle.ifc_instances.specs.Looking.{entity_at, is_a}
+use Rattle.ifc_instances.specs.EntityLookup.{entity_at, is_a}
 use Rattle.ifc_schema.specs.Used.{Used}
 use Rattle.ifc_schema.specs.Surveys.{Lists}
 use Rattle.placement.specs.declared.axes.Axes.{Axes}
@@ -12,7 +12,7 @@ use Rattle.placement.specs.Directions.{HasAxes, HasDirections, Oblique}
 use Rattle.placement.specs.Operators.{HasOperatorAxes, HasOperatorDirections, ObliqueOperator}
 use Rattle.placement.proofs.Square.{square}
 use Rattle.placement.proofs.Operating.{square_operator}
-use Rattle.model_build.specs.Least.{IsAxisPlacement, IsOperator, IsOblique}
+use Rattle.model_build.specs.FaultyInstances.{IsAxisPlacement, IsOperator, IsOblique}
 use Rattle.model_build.proofs.OneKeyword.{is_axis_placement}
 use Rattle.model_build.proofs.AttributesFormed.{Shaped}
 use Rattle.model_build.proofs.UsedFormed.{has_directions}

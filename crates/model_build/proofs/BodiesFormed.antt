@@ -12,11 +12,11 @@ use Rattle.ifc_schema.specs.declared.form.Count.TheVariants.{AtLeast}
 use Rattle.ifc_schema.specs.declared.form.Shape.TheVariants as shape
 use Rattle.ifc_schema.specs.declared.form.Need.TheVariants.{Must, OrAbsent}
 use Rattle.ifc_schema.specs.declared.form.When.TheVariants.{Always}
-use Rattle.ifc_schema.specs.Table.{row_of, attribute, row_at}
+use Rattle.ifc_schema.specs.AttributeTable.{row_of, attribute, row_at}
 use Rattle.p21_values.specs.Values.{reference_of, items_of}
-use Rattle.p21_values.specs.Looking.{look}
-use Rattle.ifc_instances.specs.Looking.{entity_at, is_a, some_passes}
-use Rattle.ifc_schema.specs.Bodies.{target_passes, has_body, is_body, is_body_shape, is_body_representation, lists_body}
+use Rattle.p21_values.specs.InstanceLookup.{look}
+use Rattle.ifc_instances.specs.EntityLookup.{entity_at, is_a, some_passes}
+use Rattle.ifc_schema.specs.BodyRepresentations.{target_passes, has_body, is_body, is_body_shape, is_body_representation, lists_body}
 use Rattle.ifc_schema.specs.Used.{Used}
 use Rattle.ifc_schema.specs.Surveys.{is_subject}
 use Rattle.p21_values.specs.Attributes.{target_at, led_to}

@@ -8,8 +8,8 @@ use Rattle.bim_model.specs.declared.upload.BuildError.TheVariants as errors
 use Rattle.p21_values.specs.declared.value.Instance.{Instance}
 use Rattle.ifc_schema.specs.Surveys.{Lists}
 use Rattle.placement.specs.Chains.{IsLoopCause}
-use Rattle.model_build.specs.Faults.{IsClear, LeastFault}
-use Rattle.model_build.specs.Named.{IsNamed, ListsNamed}
+use Rattle.model_build.specs.StageFaults.{IsClear, LeastFault}
+use Rattle.model_build.specs.NamedPlacements.{IsNamed, ListsNamed}
 use Rattle.model_build.specs.Stages.{LoopFault}
 use Rattle.model_build.specs.Outcomes.{IsErrorOf, HasChains}
 

@@ -14,8 +14,8 @@ use Rattle.p21_values.specs.declared.value.Instance.{Instance}
 use Rattle.ifc_instances.specs.declared.entity.Entity.TheVariants as entity
 use Rattle.ifc_schema.specs.declared.form.Count.TheVariants.{AtLeast}
 use Rattle.p21_values.specs.Values.{reference_of, items_of}
-use Rattle.p21_values.specs.Looking.{look}
-use Rattle.ifc_instances.specs.Looking.{entity_at, is_a}
+use Rattle.p21_values.specs.InstanceLookup.{look}
+use Rattle.ifc_instances.specs.EntityLookup.{entity_at, is_a}
 use Rattle.ifc_schema.specs.Used.{Used}
 use Rattle.ifc_schema.specs.Surveys.{IsModelElement, used_ids, element_ids, is_subject}
 use Rattle.ifc_schema.proofs.Listing.{element_used}
@@ -26,17 +26,17 @@ use Rattle.ifc_units.specs.Lengths.{IsPoint, ArePoints, PointRefused, PointsRefu
 use Rattle.placement.specs.declared.frame.Frame.{Frame}
 use Rattle.placement.specs.Frames.{lengths_of, frame_at}
 use Rattle.placement.specs.Operators.{IsOrigin, OperatorFrame}
-use Rattle.faceset.specs.Sets.{is_set, is_polygonal, points_of, spelled_points, spelled_triangles, faces_of, listed_in, HasThree, IsOutlined}
+use Rattle.faceset.specs.FaceSets.{is_set, is_polygonal, points_of, spelled_points, spelled_triangles, faces_of, listed_in, HasThree, IsOutlined}
 use Rattle.p21_values.specs.Attributes.{listed, reference_at}
 use Rattle.model_build.specs.declared.judged_file.File.{File}
 use Rattle.model_build.specs.Stages.{IsUsed}
 use Rattle.ifc_elements.specs.PointTables.{IsTable, ListsPoints, kept_at}
 use Rattle.model_build.specs.LengthFaults.{LengthFault, told_of}
 use Rattle.ifc_elements.specs.Items.{bodies, spelled_items, is_mapped_item, spelled_sets, counted, count_of}
-use Rattle.model_build.specs.Least.{IsBadSet, IsOblique}
+use Rattle.model_build.specs.FaultyInstances.{IsBadSet, IsOblique}
 use Rattle.ifc_elements.specs.Sound.{IsSoundSet, ReadySet, ReadyMapped, ReadyItem, ReadyBody}
 use Rattle.model_build.specs.Outcomes.{HasChains, IsMeasured, AreReady, AreSound}
-use Rattle.ifc_elements.specs.Making.{IsStanding, IsReady}
+use Rattle.ifc_elements.specs.ElementReadiness.{IsStanding, IsReady}
 use Rattle.model_build.proofs.AttributesFormed.{Shaped, At, OrAway, SpellsNumber, ListOf}
 use Rattle.model_build.proofs.UsedFormed.{ThreeOf, NamesUsed, named_at, point_numbers, list_numbers, listed_there, element_guid, guid_there, placement_used}
 use Rattle.model_build.proofs.BodiesFormed.{UsedAs, IsBody}

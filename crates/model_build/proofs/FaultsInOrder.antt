@@ -10,9 +10,9 @@ use Rattle.ifc_schema.specs.declared.outcome.Survey.{Survey}
 use Rattle.ifc_schema.specs.Surveys.{Surveyed, IsModelElement, used_ids, element_ids}
 use Rattle.spatial_tree.specs.Trees.{IsTree, IsRefused}
 use Rattle.model_build.specs.declared.judged_file.File.{File}
-use Rattle.model_build.specs.Faults.{IsClear, first_fault}
-use Rattle.model_build.specs.Guids.{NoneRepeats}
-use Rattle.model_build.specs.Least.{NoneOf, IsVoided, IsOblique}
+use Rattle.model_build.specs.StageFaults.{IsClear, first_fault}
+use Rattle.model_build.specs.DuplicateGuids.{NoneRepeats}
+use Rattle.model_build.specs.FaultyInstances.{NoneOf, IsVoided, IsOblique}
 use Rattle.model_build.specs.Unsupported.{IsUnsupported}
 use Rattle.model_build.specs.Faces.{IsStuckFace}
 use Rattle.model_build.specs.Stages.{FormStage, UnitStage, TreeStage, TwiceStage, LoopStage, ObliqueStage, ItemStage, VoidStage, IndexStage, LengthStage, CornersStage, StuckStage, TrianglesStage, ReachStage, InUnit, stages, FileFault}

@@ -10,8 +10,8 @@ use Rattle.bim_model.specs.declared.upload.UploadFault.TheVariants as faults
 use Rattle.ifc_instances.proofs.Rising.{before}
 use Rattle.ifc_schema.specs.Used.{Used}
 use Rattle.ifc_schema.specs.Surveys.{Lists}
-use Rattle.model_build.specs.Faults.{LeastFault}
-use Rattle.model_build.specs.Least.{IsLeastOf, NoneOf, IsVoided, IsBadSet, IsOblique}
+use Rattle.model_build.specs.StageFaults.{LeastFault}
+use Rattle.model_build.specs.FaultyInstances.{IsLeastOf, NoneOf, IsVoided, IsBadSet, IsOblique}
 use Rattle.model_build.specs.Stages.{ObliqueStage, VoidStage, IndexStage}
 
 pub least_here : (P : ℕ → Type 0) (ids : List ℕ) (i : ℕ) → IsStrictlyIncreasing ids → i < length ids → All (λ k. P k → ⊥) (take i ids) → P (get_or ids i 0) → IsLeastOf ids P (get_or ids i 0)

@@ -7,8 +7,8 @@ use Rattle.bim_model.specs.declared.geometry.Point.{Point}
 use Rattle.p21_values.specs.declared.value.Value21.{Value21}
 use Rattle.p21_values.specs.declared.value.Instance.{Instance}
 use Rattle.p21_values.specs.Values.{items_of}
-use Rattle.p21_values.specs.Looking.{look}
-use Rattle.p21_values.specs.Places.{IsPlaceOf}
+use Rattle.p21_values.specs.InstanceLookup.{look}
+use Rattle.p21_values.specs.InstancePlaces.{IsPlaceOf}
 use Rattle.p21_values.proofs.PlaceLemmas.{found_at, same_instance}
 use Rattle.ifc_units.specs.declared.scale.Scale.{Scale}
 use Rattle.ifc_units.specs.declared.length_error.GridFault.{GridFault}
@@ -25,7 +25,7 @@ use Rattle.std.proofs.lemmas.Option.{get_or_from_slice_get}
 use Rattle.std.proofs.lemmas.List.Elements.{Contains-get_or}
 use Rattle.bim_model.specs.declared.upload.UploadFault.{UploadFault}
 use Rattle.ifc_instances.proofs.Rising.{earlier, below_next}
-use Rattle.model_build.specs.Faults.{LeastFault}
+use Rattle.model_build.specs.StageFaults.{LeastFault}
 
 -- a list of points on the grid has no fault
 

@@ -8,7 +8,7 @@ use Rattle.p21_values.specs.declared.value.Instance.{Instance}
 use Rattle.ifc_units.specs.declared.scale.Scale.{Scale}
 use Rattle.ifc_units.specs.Units.{IsLengthUnit}
 use Rattle.ifc_units.proofs.UnitFacts.{one_unit}
-use Rattle.model_build.specs.Faults.{Stage, IsClear, first_fault}
+use Rattle.model_build.specs.StageFaults.{Stage, IsClear, first_fault}
 use Rattle.model_build.specs.Stages.{InUnit}
 use Rattle.model_build.specs.Outcomes.{IsErrorOf}
 

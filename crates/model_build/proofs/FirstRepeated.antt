@@ -13,8 +13,8 @@ use Rattle.std.proofs.lemmas.List.Elements.{Contains-get_or}
 use Rattle.std.proofs.lemmas.Map.Lookups.{exact_bytes}
 use Rattle.p21_values.specs.declared.value.Instance.{Instance}
 use Rattle.ifc_instances.proofs.Rising.{earlier, below_next}
-use Rattle.ifc_elements.specs.Texts.{guid_of}
-use Rattle.model_build.specs.Guids.{HasGuid, RepeatsGuid, IsIdentified, HasNoGuid, NoneRepeats, IsFirstRepeated}
+use Rattle.ifc_elements.specs.ElementTexts.{guid_of}
+use Rattle.model_build.specs.DuplicateGuids.{HasGuid, RepeatsGuid, IsIdentified, HasNoGuid, NoneRepeats, IsFirstRepeated}
 
 abbrev pub by_bytes : List ℕ → List ℕ → Ordering
 by_bytes = slice_cmp nat_cmp

@@ -22,7 +22,7 @@ use Rattle.p21_values.specs.Attributes.{referred_at, reference_at}
 use Rattle.placement.specs.Placed.{IsLocation, OwnFrame, LacksFrame}
 use Rattle.model_build.specs.Stages.{IsUsed}
 use Rattle.model_build.specs.LengthFaults.{told_of}
-use Rattle.model_build.specs.Named.{IsNamed}
+use Rattle.model_build.specs.NamedPlacements.{IsNamed}
 use Rattle.model_build.specs.Outcomes.{IsMeasured}
 use Rattle.model_build.proofs.AttributesFormed.{Shaped}
 use Rattle.model_build.proofs.UsedFormed.{point_numbers, location_used, parent_used, axes_used, placement_used}

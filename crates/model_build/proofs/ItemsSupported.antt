@@ -11,21 +11,21 @@ use Rattle.ifc_instances.specs.declared.entity.Entity.TheVariants as entity
 use Rattle.ifc_schema.specs.declared.form.Targets.TheVariants as targets
 use Rattle.ifc_schema.specs.declared.form.Count.TheVariants.{AtLeast}
 use Rattle.p21_values.specs.Values.{reference_of}
-use Rattle.p21_values.specs.Looking.{look}
-use Rattle.ifc_instances.specs.Looking.{entity_at, is_a}
-use Rattle.ifc_schema.specs.Bodies.{has_body, is_body, is_body_representation}
+use Rattle.p21_values.specs.InstanceLookup.{look}
+use Rattle.ifc_instances.specs.EntityLookup.{entity_at, is_a}
+use Rattle.ifc_schema.specs.BodyRepresentations.{has_body, is_body, is_body_representation}
 use Rattle.ifc_schema.specs.Used.{Used, mapped, IsMapped}
 use Rattle.ifc_schema.specs.Surveys.{IsModelElement, is_subject}
 use Rattle.ifc_schema.proofs.Listing.{element_used}
 use Rattle.ifc_units.specs.declared.scale.Scale.{Scale}
 use Rattle.p21_values.specs.Attributes.{listed, reference_at, target_at, led_to}
-use Rattle.faceset.specs.Sets.{is_set, is_polygonal, faces_of, outline, spelled_triangles, face_count, triangle_count, HasThree, IsOutlined}
+use Rattle.faceset.specs.FaceSets.{is_set, is_polygonal, faces_of, outline, spelled_triangles, face_count, triangle_count, HasThree, IsOutlined}
 use Rattle.ifc_elements.specs.Finding.{Finds}
 use Rattle.model_build.specs.Stages.{IsUsed}
 use Rattle.ifc_elements.specs.Items.{bodies, spelled_items, items_of, body_items, is_mapped_item, is_item, map_of, listed_by, spelled_sets, mapped_sets, item_count}
 use Rattle.model_build.specs.Unsupported.{IsUnsupported}
 use Rattle.model_build.specs.Faces.{HasManyCorners, is_face}
-use Rattle.model_build.specs.Least.{IsVoided}
+use Rattle.model_build.specs.FaultyInstances.{IsVoided}
 use Rattle.model_build.proofs.OneKeyword.{is_a_held, both}
 use Rattle.model_build.proofs.AttributesFormed.{Shaped, Refers, SpellsWhole}
 use Rattle.model_build.proofs.UsedFormed.{ThreeOf, listed_there, listed_some, triangles_whole, three_values}

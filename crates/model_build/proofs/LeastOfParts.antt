@@ -5,7 +5,7 @@ use Rattle.std.proofs.lemmas.List.{take_more, get_or_default}
 use Rattle.std.proofs.lemmas.List.Elements.{Contains-append_left, Contains-append_right, Contains-append_cases}
 use Rattle.std.proofs.lemmas.Bool.{ltb-true, ltb-false}
 use Rattle.ifc_instances.specs.Least.{IsLeast, LeastOf}
-use Rattle.model_build.specs.Least.{ShownBy}
+use Rattle.model_build.specs.FaultyInstances.{ShownBy}
 use Rattle.model_build.specs.Showing.{lesser}
 
 -- what is least of one thing is least of another that holds of the same numbers

@@ -9,7 +9,7 @@ use Rattle.bim_model.specs.declared.upload.Mode.{Mode}
 use Rattle.p21_values.specs.declared.value.Value21.{Value21}
 use Rattle.p21_values.specs.declared.value.Instance.{Instance}
 use Rattle.p21_values.specs.Values.{number_of}
-use Rattle.p21_values.specs.Looking.{look}
+use Rattle.p21_values.specs.InstanceLookup.{look}
 use Rattle.ifc_units.specs.declared.scale.Scale.{Scale}
 use Rattle.placement.specs.declared.axis.Axis.{Axis}
 use Rattle.placement.specs.declared.axes.Axes.{Axes}

@@ -9,7 +9,7 @@ use Rattle.std.proofs.lemmas.List.Sorted.{All-permutation, sum_by-IsPermutation}
 use Rattle.bim_model.specs.declared.element.Element.{Element}
 use Rattle.bim_model.specs.Models.{IsModel, IsModelled, triangle_count, IsInReach}
 use Rattle.p21_values.specs.declared.value.Instance.{Instance}
-use Rattle.model_build.specs.Guids.{HasGuid, NoneRepeats}
+use Rattle.model_build.specs.DuplicateGuids.{HasGuid, NoneRepeats}
 use Rattle.model_walk.specs.Checked.{Differ}
 use Rattle.model_build.specs.Order.{Rise}
 use Rattle.std.proofs.lemmas.List.Sums.{sum_by-cons}
@@ -22,7 +22,7 @@ use Rattle.bim_model.specs.Boxes.{corners_of}
 use Rattle.model_build.specs.declared.judged_file.File.{File}
 use Rattle.ifc_schema.specs.Surveys.{IsModelElement, Lists, used_ids, element_ids}
 use Rattle.ifc_units.specs.declared.scale.Scale.{Scale}
-use Rattle.model_build.specs.Faults.{IsClear}
+use Rattle.model_build.specs.StageFaults.{IsClear}
 use Rattle.ifc_elements.specs.Finding.{Finds}
 use Rattle.ifc_elements.specs.Items.{count_of}
 use Rattle.model_build.specs.Triangles.{most_triangles}
@@ -30,7 +30,7 @@ use Rattle.ifc_elements.specs.Surfaces.{IsBeyond}
 use Rattle.ifc_elements.specs.Elements.{IsElement}
 use Rattle.model_build.specs.Profile.{IsModelOf}
 use Rattle.model_build.specs.Stages.{ReachStage}
-use Rattle.ifc_elements.specs.Making.{IsNearElement, IsFirstLacking, LacksAt}
+use Rattle.ifc_elements.specs.ElementReadiness.{IsNearElement, IsFirstLacking, LacksAt}
 use Rattle.model_build.specs.Outcomes.{IsOpened, AreReady}
 use Rattle.ifc_elements.specs.declared.lack.Lacking.{Lacking}
 use Rattle.ifc_elements.specs.declared.lack.Lack.TheVariants.{Beyond, Unready}

@@ -9,7 +9,7 @@ use Rattle.bim_model.specs.declared.upload.Mode.{Mode}
 use Rattle.bim_model.specs.Models.{IsModel}
 use Rattle.p21_values.specs.declared.value.Instance.{Instance}
 use Rattle.model_walk.specs.Walked.{IsWalked}
-use Rattle.model_build.specs.Faults.{IsClear}
+use Rattle.model_build.specs.StageFaults.{IsClear}
 use Rattle.model_walk.specs.Checked.{Differ}
 use Rattle.model_build.specs.Order.{Rise}
 use Rattle.model_build.specs.Profile.{IsModelOf}

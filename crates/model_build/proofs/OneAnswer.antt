@@ -28,12 +28,12 @@ use Rattle.ifc_units.proofs.UnitFacts.{one_unit, one_unit_fault}
 use Rattle.ifc_units.proofs.InstanceFacts.{one_instance_fault}
 use Rattle.spatial_tree.proofs.OneStorey.{one_storey, one_tree_fault}
 use Rattle.ifc_instances.specs.declared.entity.Entity.TheVariants.{FaceWithVoids}
-use Rattle.model_build.specs.Faults.{Stage, first_fault, LeastFault}
+use Rattle.model_build.specs.StageFaults.{Stage, first_fault, LeastFault}
 use Rattle.model_build.specs.Stages.{LoopFault, ItemStage, IsUsed, LengthStage, StuckStage, ReachFault, ReachStage, InUnit, stages, FileFault}
-use Rattle.model_build.specs.Guids.{GuidFault}
-use Rattle.ifc_elements.specs.Texts.{name_at}
-use Rattle.model_build.specs.Named.{IsNamed}
-use Rattle.model_build.specs.Least.{IsBadSet, IsOblique}
+use Rattle.model_build.specs.DuplicateGuids.{GuidFault}
+use Rattle.ifc_elements.specs.ElementTexts.{name_at}
+use Rattle.model_build.specs.NamedPlacements.{IsNamed}
+use Rattle.model_build.specs.FaultyInstances.{IsBadSet, IsOblique}
 use Rattle.model_build.specs.Unsupported.{IsUnsupported}
 use Rattle.model_build.specs.Faces.{IsStuckFace}
 use Rattle.model_build.specs.LengthFaults.{LengthFault, told_of}

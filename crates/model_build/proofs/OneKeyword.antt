@@ -8,7 +8,7 @@ use Rattle.ifc_instances.specs.declared.entity.Entity.TheVariants as entity
 use Rattle.ifc_schema.specs.declared.form.Targets.TheVariants as targets
 use Rattle.ifc_instances.specs.Entities.{is_of, entity_of, keywords_of}
 use Rattle.ifc_schema.specs.Forms.{holds}
-use Rattle.ifc_instances.specs.Looking.{entity_at, is_a, is_keyword_of}
+use Rattle.ifc_instances.specs.EntityLookup.{entity_at, is_a, is_keyword_of}
 use Rattle.ifc_schema.specs.Surveys.{is_subject}
 
 pub both : (a b : Bool) → (a && b) ≡ true → (a ≡ true) × (b ≡ true)

@@ -14,9 +14,9 @@ use Rattle.ifc_schema.specs.declared.form.Shape.TheVariants as shape
 use Rattle.ifc_schema.specs.declared.form.Need.TheVariants.{OrMissing}
 use Rattle.ifc_schema.specs.declared.form.When.{When}
 use Rattle.ifc_schema.specs.declared.form.When.TheVariants.{Always}
-use Rattle.ifc_schema.specs.Table.{row_of, attribute, row_at}
+use Rattle.ifc_schema.specs.AttributeTable.{row_of, attribute, row_at}
 use Rattle.p21_values.specs.Values.{is_absent}
-use Rattle.p21_values.specs.Looking.{look}
+use Rattle.p21_values.specs.InstanceLookup.{look}
 use Rattle.ifc_schema.specs.Flaws.{LeafFlaw, ShapeFlaw, PlaceFlaw}
 use Rattle.ifc_schema.specs.Used.{Used}
 use Rattle.placement.specs.declared.direction.Direction.{Direction}

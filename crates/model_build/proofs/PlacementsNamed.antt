@@ -3,7 +3,7 @@ use Rattle.std.proofs.Common.{◌≡◌, ℕ, inl, inr, List, [], ◌∷◌, ◌
 use Rattle.std.proofs.lemmas.List.Elements.{Contains-append_left, Contains-push, Contains-push_cases}
 use Rattle.p21_values.specs.declared.value.Instance.{Instance}
 use Rattle.p21_values.specs.Attributes.{reference_at}
-use Rattle.model_build.specs.Named.{IsNamed, NamesPlacement, NamesNone, ListsNamed}
+use Rattle.model_build.specs.NamedPlacements.{IsNamed, NamesPlacement, NamesNone, ListsNamed}
 
 -- an element names one placement
 names_once : (world : List Instance) (id p q : ℕ) → NamesPlacement world id p → NamesPlacement world id q → p ≡ q

@@ -8,7 +8,7 @@ use Rattle.bim_model.specs.declared.element.Element.{Element}
 use Rattle.p21_values.specs.declared.value.Instance.{Instance}
 use Rattle.p21_reader.specs.Uploads.{SpellsExchange}
 use Rattle.p21_reader.specs.Uploads as reader
-use Rattle.model_build.specs.Faults.{IsClear}
+use Rattle.model_build.specs.StageFaults.{IsClear}
 use Rattle.model_build.specs.Profile.{IsModelOf, Profile, IsCause}
 use Rattle.model_build.specs.Stages.{FileFault}
 use Rattle.model_build.specs.Outcomes.{IsErrorOf}

@@ -4,11 +4,11 @@ use Rattle.p21_values.specs.declared.value.Instance.{Instance}
 use Rattle.ifc_schema.specs.declared.outcome.Survey.{Survey}
 use Rattle.ifc_schema.specs.Surveys.{Surveyed, element_ids, Lists}
 use Rattle.ifc_schema.proofs.Listing.{element_used}
-use Rattle.model_build.specs.Guids.{IsIdentified, RepeatsGuid, GuidFault, NoneRepeats, IsFirstRepeated}
+use Rattle.model_build.specs.DuplicateGuids.{IsIdentified, RepeatsGuid, GuidFault, NoneRepeats, IsFirstRepeated}
 use Rattle.model_build.proofs.UsedFormed.{element_guid, guid_there}
 use Rattle.model_build.proofs.ItemsSupported.{element_is}
 use Rattle.bim_model.specs.declared.upload.UploadFault.TheVariants as faults
-use Rattle.model_build.specs.Faults.{IsClear, LeastFault}
+use Rattle.model_build.specs.StageFaults.{IsClear, LeastFault}
 
 -- each element has a global identifier
 pub identified : (world : List Instance) (survey : Survey) → Surveyed world survey → (id : ℕ) → Contains (element_ids survey) id → IsIdentified world id

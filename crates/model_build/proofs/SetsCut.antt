@@ -3,11 +3,11 @@ use Rattle.std.proofs.Common.{ℕ, List, subst}
 use Rattle.bim_model.specs.declared.upload.Mode.{Mode}
 use Rattle.bim_model.specs.declared.geometry.Triangle.{Triangle}
 use Rattle.p21_values.specs.declared.value.Instance.{Instance}
-use Rattle.p21_values.specs.Looking.{look}
+use Rattle.p21_values.specs.InstanceLookup.{look}
 use Rattle.ifc_schema.specs.Used.{Used}
 use Rattle.ifc_schema.specs.Surveys.{Lists}
 use Rattle.ifc_units.specs.declared.scale.Scale.{Scale}
-use Rattle.model_build.specs.Faults.{IsClear}
+use Rattle.model_build.specs.StageFaults.{IsClear}
 use Rattle.model_build.specs.Faces.{IsStuckFace}
 use Rattle.ifc_elements.specs.Surfaces.{SetSurface}
 use Rattle.ifc_elements.specs.Sound.{AreSets, IsUncut}

@@ -17,15 +17,15 @@ use Rattle.ifc_schema.specs.declared.form.Need.TheVariants.{Must}
 use Rattle.ifc_schema.specs.declared.form.When.TheVariants.{Always, WithItems}
 use Rattle.ifc_instances.specs.Entities.{is_of, entity_of}
 use Rattle.ifc_schema.specs.Forms.{holds, followed}
-use Rattle.ifc_schema.specs.Table.{row_of, attribute, row_at}
+use Rattle.ifc_schema.specs.AttributeTable.{row_of, attribute, row_at}
 use Rattle.p21_values.specs.Values.{reference_of, items_of}
-use Rattle.p21_values.specs.Looking.{look}
-use Rattle.ifc_instances.specs.Looking.{entity_at, is_a, is_keyword_of}
-use Rattle.ifc_schema.specs.Bodies.{applies, is_body}
+use Rattle.p21_values.specs.InstanceLookup.{look}
+use Rattle.ifc_instances.specs.EntityLookup.{entity_at, is_a, is_keyword_of}
+use Rattle.ifc_schema.specs.BodyRepresentations.{applies, is_body}
 use Rattle.ifc_schema.specs.Flaws.{LeafFlaw, ShapeFlaw, InstanceFlaw, bad_unless, target_flaw, wanted_flaw, reference_flaw}
 use Rattle.ifc_schema.specs.Used.{Used, IsMapped, LeadsTo, RefersTo, StandsIn}
 use Rattle.p21_values.specs.Attributes.{listed}
-use Rattle.faceset.specs.Sets.{is_polygonal, is_set, outline}
+use Rattle.faceset.specs.FaceSets.{is_polygonal, is_set, outline}
 use Rattle.ifc_elements.specs.Items.{is_mapped_item, is_item}
 use Rattle.model_build.specs.Faces.{is_face}
 use Rattle.model_build.proofs.OneKeyword.{entity_there, is_representation}

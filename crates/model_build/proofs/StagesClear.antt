@@ -5,10 +5,10 @@ use Rattle.p21_values.specs.declared.value.Instance.{Instance}
 use Rattle.ifc_schema.specs.Used.{Used}
 use Rattle.ifc_schema.specs.Surveys.{Lists, Surveyed}
 use Rattle.ifc_units.specs.declared.scale.Scale.{Scale}
-use Rattle.model_build.specs.Faults.{IsClear, LeastFault}
+use Rattle.model_build.specs.StageFaults.{IsClear, LeastFault}
 use Rattle.model_build.specs.Unsupported.{IsUnsupported}
 use Rattle.model_build.specs.Stages.{FormStage, TreeStage, ObliqueStage, ItemStage, VoidStage, IndexStage, LengthStage, CornersStage}
-use Rattle.model_build.specs.Least.{NoneOf, IsVoided, IsBadSet, IsOblique}
+use Rattle.model_build.specs.FaultyInstances.{NoneOf, IsVoided, IsBadSet, IsOblique}
 use Rattle.model_build.specs.Outcomes.{HaveFewCorners, AreMeasured}
 use Rattle.ifc_schema.specs.declared.outcome.Survey.{Survey}
 use Rattle.ifc_schema.proofs.Apart.{used_apart}

@@ -7,20 +7,20 @@ use Rattle.bim_model.specs.declared.upload.Mode.{Mode}
 use Rattle.bim_model.specs.declared.upload.UploadFault.TheVariants as faults
 use Rattle.p21_values.specs.declared.value.Instance.{Instance}
 use Rattle.ifc_instances.specs.declared.entity.Entity.TheVariants as entity
-use Rattle.p21_values.specs.Looking.{look}
-use Rattle.ifc_instances.specs.Looking.{is_a}
+use Rattle.p21_values.specs.InstanceLookup.{look}
+use Rattle.ifc_instances.specs.EntityLookup.{is_a}
 use Rattle.ifc_schema.specs.Used.{Used}
 use Rattle.ifc_schema.specs.Surveys.{Lists}
 use Rattle.ifc_units.specs.declared.scale.Scale.{Scale}
 use Rattle.ifc_units.specs.Lengths.{ArePoints}
 use Rattle.ifc_units.proofs.PointFacts.{one_points}
-use Rattle.faceset.specs.Sets.{is_set, listed_in, points_of, HasStuck}
+use Rattle.faceset.specs.FaceSets.{is_set, listed_in, points_of, HasStuck}
 use Rattle.p21_values.specs.Attributes.{listed, reference_at}
 use Rattle.ifc_elements.specs.PointTables.{ListsPoints}
 use Rattle.ifc_elements.specs.Surfaces.{SetPoints}
 use Rattle.model_build.specs.Faces.{IsStuckFace}
 use Rattle.ifc_instances.specs.Least.{IsLeast, LeastOf}
-use Rattle.model_build.specs.Least.{ShownBy}
+use Rattle.model_build.specs.FaultyInstances.{ShownBy}
 use Rattle.model_build.specs.Stages.{StuckStage}
 use Rattle.model_build.specs.Outcomes.{ShowsStuckSet}
 use Rattle.model_build.proofs.AttributesFormed.{Shaped}

@@ -4,14 +4,14 @@ use Rattle.std.proofs.Common.{◌≡◌, ℕ, ◌+◌, ◌<◌, ◌≤◌, List,
 use Rattle.std.proofs.lemmas.List.Sums.{sum_by-cons, sum_by-append}
 use Rattle.std.proofs.lemmas.List.Concat.{flat_map-cons}
 use Rattle.p21_values.specs.declared.value.Instance.{Instance}
-use Rattle.p21_values.specs.Looking.{look}
+use Rattle.p21_values.specs.InstanceLookup.{look}
 use Rattle.ifc_elements.specs.Items.{items_of, bodies, item_count, counted, count_of}
 use Rattle.model_build.specs.Triangles.{most_triangles, body_count, items_count, CountsTo}
 use Rattle.ifc_elements.specs.Finding.{Number}
 use Rattle.bim_model.specs.declared.upload.UploadFault.TheVariants as faults
 use Rattle.bim_model.specs.declared.upload.Many.TheVariants as many
 use Rattle.ifc_schema.specs.Surveys.{Lists, IsModelElement}
-use Rattle.model_build.specs.Faults.{IsClear}
+use Rattle.model_build.specs.StageFaults.{IsClear}
 use Rattle.model_build.specs.Stages.{TrianglesStage}
 use Rattle.model_build.proofs.OneList.{same_lists}
 

@@ -10,15 +10,15 @@ use Rattle.ifc_schema.specs.declared.form.Leaf.TheVariants as leaf
 use Rattle.ifc_schema.specs.declared.form.Shape.TheVariants as shape
 use Rattle.ifc_schema.specs.declared.form.Need.TheVariants.{Must}
 use Rattle.ifc_schema.specs.declared.form.When.TheVariants.{Always}
-use Rattle.ifc_schema.specs.Table.{row_of, attribute}
+use Rattle.ifc_schema.specs.AttributeTable.{row_of, attribute}
 use Rattle.p21_values.specs.Values.{reference_of}
-use Rattle.p21_values.specs.Looking.{look}
+use Rattle.p21_values.specs.InstanceLookup.{look}
 use Rattle.ifc_schema.specs.Used.{Used, IsMapped, named}
 use Rattle.ifc_schema.specs.Surveys.{Lists}
 use Rattle.ifc_units.specs.declared.scale.Scale.{Scale}
 use Rattle.ifc_elements.specs.Items.{spelled_items}
 use Rattle.ifc_instances.specs.Least.{IsLeast, LeastOf}
-use Rattle.model_build.specs.Least.{ShownBy}
+use Rattle.model_build.specs.FaultyInstances.{ShownBy}
 use Rattle.model_build.specs.Unsupported.{ListsItem, ListsOther, ListsNested, Shows, IsUnsupported}
 use Rattle.model_build.specs.Showing.{lesser, BodyShows, MapShows, ItemShows}
 use Rattle.model_build.specs.Stages.{ItemStage}

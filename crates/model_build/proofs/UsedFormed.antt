@@ -7,7 +7,7 @@ use Rattle.std.proofs.lemmas.Bool.Decides.{nat_tests}
 use Rattle.p21_values.specs.declared.value.Value21.{Value21}
 use Rattle.p21_values.specs.declared.value.Instance.{Instance}
 use Rattle.bim_model.specs.Guids.{IsGuid, is_guid_char}
-use Rattle.bim_text.specs.Texts.{text_of_spelling}
+use Rattle.bim_text.specs.TextSpellings.{text_of_spelling}
 use Rattle.ifc_instances.specs.declared.entity.Entity.{Entity}
 use Rattle.ifc_instances.specs.declared.entity.Entity.TheVariants as entity
 use Rattle.ifc_schema.specs.declared.form.Targets.TheVariants as targets
@@ -19,22 +19,22 @@ use Rattle.ifc_schema.specs.declared.form.Need.{Need}
 use Rattle.ifc_schema.specs.declared.form.Need.TheVariants.{Must, OrAbsent}
 use Rattle.ifc_schema.specs.declared.form.When.{When}
 use Rattle.ifc_schema.specs.declared.form.When.TheVariants.{Always, WithBody}
-use Rattle.ifc_schema.specs.Words.{IsNumber, says_guid}
+use Rattle.ifc_schema.specs.AttributeWords.{IsNumber, says_guid}
 use Rattle.bim_text.specs.Says.{is_guid}
-use Rattle.ifc_schema.specs.Table.{row_of, attribute, row_at}
+use Rattle.ifc_schema.specs.AttributeTable.{row_of, attribute, row_at}
 use Rattle.p21_values.specs.Values.{words_of, reference_of, items_of}
-use Rattle.p21_values.specs.Looking.{look}
-use Rattle.ifc_instances.specs.Looking.{entity_at, is_a, some_passes}
-use Rattle.ifc_schema.specs.Bodies.{applies, has_body}
+use Rattle.p21_values.specs.InstanceLookup.{look}
+use Rattle.ifc_instances.specs.EntityLookup.{entity_at, is_a, some_passes}
+use Rattle.ifc_schema.specs.BodyRepresentations.{applies, has_body}
 use Rattle.ifc_schema.specs.Flaws.{LeafFlaw, ListFlaw, ShapeFlaw, bad_unless}
 use Rattle.ifc_schema.specs.Used.{Used}
 use Rattle.ifc_schema.specs.Surveys.{is_subject}
 use Rattle.placement.specs.declared.direction.Direction.{Direction}
 use Rattle.placement.specs.Directions.{Spelled, coordinates, three_numbers, IsDirection, Directs, HasDirections}
 use Rattle.p21_values.specs.Attributes.{listed, reference_at}
-use Rattle.faceset.specs.Sets.{spelled_triangles, HasThree}
+use Rattle.faceset.specs.FaceSets.{spelled_triangles, HasThree}
 use Rattle.model_build.specs.Stages.{IsUsed}
-use Rattle.ifc_elements.specs.Texts.{guid_of}
+use Rattle.ifc_elements.specs.ElementTexts.{guid_of}
 use Rattle.model_build.proofs.OneKeyword.{is_placement, is_axis_placement, is_point, is_direction, is_point_list, is_face_set, is_element, is_a_held, both}
 use Rattle.model_build.proofs.AttributesFormed.{Shaped, Formed, formed_there, At, OrAway, in_row, attribute_flaw, must_at, absent_at, at_more, SpellsNumber, SpellsWhole, RefersToA, number_spelled, whole_spelled, referred, ListOf, list_there, list_more, follows}
 

@@ -13,13 +13,13 @@ use Rattle.bim_model.specs.Models.{IsModel}
 use Rattle.p21_values.specs.declared.value.Value21.{Value21}
 use Rattle.p21_values.specs.declared.value.Instance.{Instance}
 use Rattle.p21_values.specs.Values.{reference_of, is_absent}
-use Rattle.p21_values.specs.Looking.{look}
+use Rattle.p21_values.specs.InstanceLookup.{look}
 use Rattle.p21_values.specs.Attributes.{reference_at, referred_at, value_at}
 use Rattle.p21_values.proofs.ValueLemmas.{one, refers_absent}
 use Rattle.p21_values.proofs.PlaceLemmas.{same_instance}
 use Rattle.ifc_instances.specs.declared.entity.Entity.TheVariants as entity
-use Rattle.ifc_instances.specs.Looking.{is_a, some_passes}
-use Rattle.ifc_schema.specs.Bodies.{is_body, is_body_representation}
+use Rattle.ifc_instances.specs.EntityLookup.{is_a, some_passes}
+use Rattle.ifc_schema.specs.BodyRepresentations.{is_body, is_body_representation}
 use Rattle.ifc_schema.specs.Used.{Used, IsMapped}
 use Rattle.ifc_schema.specs.declared.form.Targets.TheVariants as targets
 use Rattle.ifc_schema.specs.Forms.{holds}
@@ -31,19 +31,19 @@ use Rattle.placement.specs.declared.frame.Frame.{Frame}
 use Rattle.placement.specs.Directions.{HasAxes}
 use Rattle.placement.specs.Chains.{Ends, here, above}
 use Rattle.placement.specs.Placed.{FrameOf, outermost, within, AxisFrame}
-use Rattle.faceset.specs.Sets.{is_set}
+use Rattle.faceset.specs.FaceSets.{is_set}
 use Rattle.ifc_elements.specs.Finding.{Finds}
 use Rattle.ifc_elements.specs.Items.{spelled_items, is_item, is_mapped_item}
-use Rattle.ifc_elements.specs.Making.{IsNearElement}
+use Rattle.ifc_elements.specs.ElementReadiness.{IsNearElement}
 use Rattle.ifc_elements.specs.Elements.{IsElement}
 use Rattle.ifc_elements.specs.Surfaces.{IsPlacedBy}
-use Rattle.ifc_elements.specs.Texts.{guid_of}
+use Rattle.ifc_elements.specs.ElementTexts.{guid_of}
 use Rattle.ifc_elements.proofs.OneSet.{set_unstuck}
 use Rattle.model_walk.specs.Clean.{LeadsToItem, HasPlainScale, IsClean, IsCleanAt, identity}
 use Rattle.model_walk.specs.Walked.{IsWalked}
-use Rattle.model_build.specs.Faults.{IsClear}
-use Rattle.model_build.specs.Guids.{NoneRepeats}
-use Rattle.model_build.specs.Least.{IsOblique}
+use Rattle.model_build.specs.StageFaults.{IsClear}
+use Rattle.model_build.specs.DuplicateGuids.{NoneRepeats}
+use Rattle.model_build.specs.FaultyInstances.{IsOblique}
 use Rattle.model_walk.specs.Checked.{Differ}
 use Rattle.model_build.specs.Order.{Rise}
 use Rattle.model_build.specs.Profile.{IsModelOf}

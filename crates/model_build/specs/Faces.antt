@@ -5,10 +5,10 @@ use Rattle.bim_model.specs.declared.upload.Mode.{Mode}
 use Rattle.bim_model.specs.declared.geometry.Point.{Point}
 use Rattle.p21_values.specs.declared.value.Instance.{Instance}
 use Rattle.ifc_instances.specs.declared.entity.Entity.TheVariants.{Face, FaceWithVoids}
-use Rattle.ifc_instances.specs.Looking.{is_a}
+use Rattle.ifc_instances.specs.EntityLookup.{is_a}
 use Rattle.ifc_schema.specs.Used.{Used}
 use Rattle.ifc_units.specs.declared.scale.Scale.{Scale}
-use Rattle.faceset.specs.Sets.{is_set, outline, most_corners, HasStuck}
+use Rattle.faceset.specs.FaceSets.{is_set, outline, most_corners, HasStuck}
 use Rattle.ifc_elements.specs.Finding.{Finds}
 use Rattle.ifc_elements.specs.Surfaces.{SetPoints}
 

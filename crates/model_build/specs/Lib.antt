@@ -1,9 +1,9 @@
 pub mod Faces
-pub mod Faults
-pub mod Guids
-pub mod Least
+pub mod StageFaults
+pub mod DuplicateGuids
+pub mod FaultyInstances
 pub mod LengthFaults
-pub mod Named
+pub mod NamedPlacements
 pub mod Order
 pub mod Outcomes
 pub mod Profile

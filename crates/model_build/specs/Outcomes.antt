@@ -11,25 +11,25 @@ use Rattle.ifc_units.specs.declared.scale.Scale.{Scale}
 use Rattle.spatial_tree.specs.Trees.{IsTree, ListsStoreys}
 use Rattle.placement.specs.Chains.{AreChains}
 use Rattle.model_build.specs.declared.judged_file.File.{File}
-use Rattle.model_build.specs.Faults.{Stage, IsClear}
+use Rattle.model_build.specs.StageFaults.{Stage, IsClear}
 use Rattle.model_build.specs.Stages.{UnitStage}
 use Rattle.ifc_elements.specs.Finding.{Finds}
 use Rattle.p21_values.specs.Attributes.{reference_at}
-use Rattle.model_build.specs.Guids.{NoneRepeats}
-use Rattle.model_build.specs.Least.{NoneOf, IsVoided, IsBadSet, IsOblique}
+use Rattle.model_build.specs.DuplicateGuids.{NoneRepeats}
+use Rattle.model_build.specs.FaultyInstances.{NoneOf, IsVoided, IsBadSet, IsOblique}
 use Rattle.ifc_elements.specs.PointTables.{ListsPoints}
 use Rattle.model_build.specs.LengthFaults.{LengthFault}
 use Rattle.model_build.specs.Unsupported.{IsUnsupported}
 use Rattle.model_build.specs.Faces.{HasManyCorners}
-use Rattle.faceset.specs.Sets.{is_set, HasStuck}
+use Rattle.faceset.specs.FaceSets.{is_set, HasStuck}
 use Rattle.bim_model.specs.declared.geometry.Point.{Point}
 use Rattle.bim_model.specs.declared.geometry.Triangle.{Triangle}
-use Rattle.p21_values.specs.Looking.{look}
-use Rattle.model_build.specs.Named.{ListsNamed}
+use Rattle.p21_values.specs.InstanceLookup.{look}
+use Rattle.model_build.specs.NamedPlacements.{ListsNamed}
 use Rattle.ifc_elements.specs.Items.{count_of}
 use Rattle.ifc_elements.specs.Sound.{IsSoundSet, AreSets}
 use Rattle.model_build.specs.Triangles.{most_triangles}
-use Rattle.ifc_elements.specs.Making.{IsReady}
+use Rattle.ifc_elements.specs.ElementReadiness.{IsReady}
 
 -- the error has that fault; want of memory is free
 abbrev pub IsErrorOf : Stage → BuildError → Type 0

@@ -13,7 +13,7 @@ use Rattle.bim_model.specs.declared.upload.UploadFault.{UploadFault}
 use Rattle.bim_model.specs.declared.upload.BuildError.{BuildError}
 use Rattle.bim_model.specs.declared.upload.BuildError.TheVariants as errors
 use Rattle.p21_reader.specs.Uploads.{SpellsExchange, HasFault}
-use Rattle.model_build.specs.Faults.{IsClear}
+use Rattle.model_build.specs.StageFaults.{IsClear}
 use Rattle.model_build.specs.Stages.{FileFault}
 
 -- The model: an element for each model element of the file, rising strictly by identifier.

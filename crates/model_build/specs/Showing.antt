@@ -4,7 +4,7 @@ use Rattle.bim_model.specs.declared.upload.Mode.{Mode}
 use Rattle.p21_values.specs.declared.value.Value21.{Value21}
 use Rattle.p21_values.specs.declared.value.Instance.{Instance}
 use Rattle.p21_values.specs.Values.{reference_of}
-use Rattle.ifc_schema.specs.Bodies.{is_body_representation}
+use Rattle.ifc_schema.specs.BodyRepresentations.{is_body_representation}
 use Rattle.ifc_units.specs.declared.scale.Scale.{Scale}
 use Rattle.model_build.specs.declared.mapping.Lies.{Lies}
 use Rattle.model_build.specs.declared.mapping.Lies.TheVariants.{AtZero, OffZero, Between}

@@ -7,7 +7,7 @@ use Rattle.bim_model.specs.declared.upload.UploadFault.TheVariants as faults
 use Rattle.p21_values.specs.declared.value.Instance.{Instance}
 use Rattle.ifc_instances.specs.declared.entity.Entity.{Entity}
 use Rattle.ifc_instances.specs.declared.entity.Entity.TheVariants.{FaceWithVoids}
-use Rattle.ifc_instances.specs.Looking.{is_a}
+use Rattle.ifc_instances.specs.EntityLookup.{is_a}
 use Rattle.ifc_schema.specs.Used.{Used}
 use Rattle.ifc_schema.specs.Surveys.{SurveyFault, IsModelElement}
 use Rattle.ifc_units.specs.declared.scale.Scale.{Scale}
@@ -16,10 +16,10 @@ use Rattle.spatial_tree.specs.Trees.{LeastTreeFault}
 use Rattle.placement.specs.Chains.{NeverEnds}
 use Rattle.ifc_elements.specs.Finding.{Finds}
 use Rattle.ifc_elements.specs.Surfaces.{IsBeyond}
-use Rattle.model_build.specs.Faults.{Stage, first_fault, LeastFault}
-use Rattle.model_build.specs.Guids.{GuidFault}
-use Rattle.model_build.specs.Named.{IsNamed}
-use Rattle.model_build.specs.Least.{IsBadSet, IsOblique}
+use Rattle.model_build.specs.StageFaults.{Stage, first_fault, LeastFault}
+use Rattle.model_build.specs.DuplicateGuids.{GuidFault}
+use Rattle.model_build.specs.NamedPlacements.{IsNamed}
+use Rattle.model_build.specs.FaultyInstances.{IsBadSet, IsOblique}
 use Rattle.model_build.specs.Unsupported.{IsUnsupported}
 use Rattle.model_build.specs.LengthFaults.{LengthFault}
 use Rattle.model_build.specs.Faces.{HasManyCorners, IsStuckFace}

@@ -4,7 +4,7 @@ use Rattle.bim_model.specs.declared.limits.TheConstants.{MOST_TRIANGLES}
 use Rattle.p21_values.specs.declared.value.Instance.{Instance}
 use Rattle.ifc_schema.specs.Surveys.{IsModelElement, Lists}
 use Rattle.ifc_elements.specs.Items.{count_of, items_of, item_count}
-use Rattle.p21_values.specs.Looking.{look}
+use Rattle.p21_values.specs.InstanceLookup.{look}
 
 -- how many the model elements have together
 pub record HasTriangles (world : List Instance) (count : ℕ) : Type 0 where

@@ -1,15 +1,15 @@
 //! The checks of a file, one for each kind of fault.
 ghost use Rattle.std.specs.Prelude.{ℕ, IfOk, IfErr, MatchOption, sum_by, ◌≤◌};
 ghost use Rattle.ifc_schema.specs.Surveys.{Surveyed, used_ids, element_ids};
-ghost use Rattle.model_build.specs.Faults.{LeastFault};
-ghost use Rattle.model_build.specs.Guids.{GuidFault, NoneRepeats};
+ghost use Rattle.model_build.specs.StageFaults.{LeastFault};
+ghost use Rattle.model_build.specs.DuplicateGuids.{GuidFault, NoneRepeats};
 ghost use Rattle.model_build.specs.Stages.{TwiceStage, LoopStage, ObliqueStage, ItemStage, VoidStage, IndexStage, CornersStage, StuckStage, TrianglesStage};
 ghost use Rattle.ifc_elements.specs.Items.{count_of};
 ghost use Rattle.model_build.specs.Triangles.{most_triangles};
 ghost use Rattle.model_build.specs.Unsupported.{IsUnsupported};
 ghost use Rattle.model_build.specs.Faces.{IsStuckFace};
-ghost use Rattle.model_build.specs.Least.{NoneOf, IsVoided, IsBadSet, IsOblique};
-ghost use Rattle.model_build.specs.Named.{IsNamed};
+ghost use Rattle.model_build.specs.FaultyInstances.{NoneOf, IsVoided, IsBadSet, IsOblique};
+ghost use Rattle.model_build.specs.NamedPlacements.{IsNamed};
 ghost use Rattle.ifc_elements.specs.PointTables.{IsTable};
 ghost use Rattle.ifc_elements.specs.Shapes.{AreShapes};
 ghost use Rattle.model_build.specs.Outcomes.{IsErrorOf, HasChains, HaveFewCorners};

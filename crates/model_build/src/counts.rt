@@ -1,6 +1,6 @@
 //! How many triangles a model has.
 ghost use Rattle.std.specs.Prelude.{◌≤◌, ◌+◌, ◌∷◌, [], sum_by, IfOk};
-ghost use Rattle.faceset.specs.Sets.{triangle_count};
+ghost use Rattle.faceset.specs.FaceSets.{triangle_count};
 ghost use Rattle.p21_values.specs.Attributes.{led_to};
 ghost use Rattle.ifc_elements.specs.Items.{item_count, count_of};
 ghost use Rattle.model_build.specs.Triangles.{most_triangles, CountsTo, body_count};

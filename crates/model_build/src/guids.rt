@@ -1,7 +1,7 @@
 //! Global identifiers that stand twice (IFC4 ADD2 TC1, IfcGloballyUniqueId).
 ghost use Rattle.std.specs.Prelude.{ℕ, Contains, IfOk, MatchOption};
 ghost use Rattle.std.specs.List.Sorted.{IsStrictlyIncreasing};
-ghost use Rattle.model_build.specs.Guids.{HasNoGuid, HasThatGuid, IsIdentified, NoneRepeats, IsFirstRepeated};
+ghost use Rattle.model_build.specs.DuplicateGuids.{HasNoGuid, HasThatGuid, IsIdentified, NoneRepeats, IsFirstRepeated};
 
 use bim_model::Guid;
 use ifc_elements::guid_of;

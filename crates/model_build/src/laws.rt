@@ -6,7 +6,7 @@ ghost use Rattle.bim_model.specs.declared.element.Element.{Element};
 ghost use Rattle.p21_values.specs.declared.value.Instance.{Instance};
 ghost use Rattle.bim_model.specs.Models.{IsModel};
 ghost use Rattle.model_walk.specs.Walked.{IsWalked};
-ghost use Rattle.model_build.specs.Faults.{IsClear};
+ghost use Rattle.model_build.specs.StageFaults.{IsClear};
 ghost use Rattle.model_walk.specs.Checked.{Differ};
 ghost use Rattle.model_build.specs.Order.{Rise};
 ghost use Rattle.model_build.specs.Stages.{FileFault};

@@ -5,7 +5,7 @@ ghost use Rattle.std.specs.List.Sorted.{IsStrictlyIncreasing};
 ghost use Rattle.placement.specs.Directions.{HasDirections};
 ghost use Rattle.placement.specs.Operators.{HasOperatorDirections};
 ghost use Rattle.faceset.specs.Learnt.{IsLearnt};
-ghost use Rattle.model_build.specs.Least.{IsLeastOf, NoneOf, IsBadSet, IsAxisPlacement, IsOperator, IsOblique};
+ghost use Rattle.model_build.specs.FaultyInstances.{IsLeastOf, NoneOf, IsBadSet, IsAxisPlacement, IsOperator, IsOblique};
 
 use faceset::{Learnt, has_bad_index, is_set};
 use ifc_instances::Entity;

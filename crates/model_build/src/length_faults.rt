@@ -5,7 +5,7 @@ ghost use Rattle.bim_model.specs.declared.upload.UploadFault.{UploadFault};
 ghost use Rattle.ifc_units.specs.declared.length_error.GridFault.{GridFault};
 ghost use Rattle.ifc_units.specs.Lengths.{InstanceRefused};
 ghost use Rattle.ifc_elements.specs.PointTables.{Tabled, IsTable};
-ghost use Rattle.model_build.specs.Faults.{LeastFault};
+ghost use Rattle.model_build.specs.StageFaults.{LeastFault};
 ghost use Rattle.model_build.specs.LengthFaults.{Refuses, LengthFault, told_of};
 
 use bim_model::{Items, Mode, Point, UploadFault};

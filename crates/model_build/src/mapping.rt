@@ -2,7 +2,7 @@
 ghost use Rattle.std.specs.Prelude.{◌≡◌, ℕ, MatchOption};
 ghost use Rattle.std.specs.Bool.{MatchBool};
 ghost use Rattle.ifc_instances.specs.Least.{LeastOf};
-ghost use Rattle.model_build.specs.Least.{ShownBy};
+ghost use Rattle.model_build.specs.FaultyInstances.{ShownBy};
 ghost use Rattle.model_build.specs.Unsupported.{IsNotOne, IsNoTarget, IsAway, IsAwayValue, IsTurned, IsOtherOrigin};
 ghost use Rattle.model_build.specs.Showing.{ItemShows, NamesNoTarget, HasPlace, are_away};
 

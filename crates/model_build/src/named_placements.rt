@@ -1,6 +1,6 @@
 //! The placements that elements name (IFC4 ADD2 TC1, IfcProduct).
 ghost use Rattle.std.specs.Prelude.{IfOk, MatchOption};
-ghost use Rattle.model_build.specs.Named.{NamesPlacement, NamesNone, ListsNamed};
+ghost use Rattle.model_build.specs.NamedPlacements.{NamesPlacement, NamesNone, ListsNamed};
 
 use p21_table::Exchange;
 use std::alloc::{AllocError, Global};

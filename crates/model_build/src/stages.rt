@@ -2,11 +2,11 @@
 ghost use Rattle.std.specs.Prelude.{◌≡◌, IfOk, IfErr};
 ghost use Rattle.ifc_schema.specs.Surveys.{used_ids, element_ids};
 ghost use Rattle.placement.specs.Placed.{AreFrames, frame_in};
-ghost use Rattle.ifc_elements.specs.Names.{AreNames};
+ghost use Rattle.ifc_elements.specs.StoreyNames.{AreNames};
 ghost use Rattle.ifc_elements.specs.PointTables.{IsTable};
 ghost use Rattle.ifc_elements.specs.Shapes.{AreShapes};
 ghost use Rattle.ifc_elements.specs.Sound.{AreSets};
-ghost use Rattle.model_build.specs.Faults.{IsClear};
+ghost use Rattle.model_build.specs.StageFaults.{IsClear};
 ghost use Rattle.model_build.specs.Stages.{TrianglesStage, FileFault};
 ghost use Rattle.model_build.specs.Outcomes.{IsErrorOf, IsOpened, IsSupported, IsMeasured, IsCut, AreReady};
 ghost use Rattle.model_build.specs.Profile.{IsModelOf};

@@ -2,7 +2,7 @@
 ghost use Rattle.std.specs.Prelude.{◌≡◌, ℕ, IfOk};
 ghost use Rattle.ifc_elements.specs.PointTables.{IsTable};
 ghost use Rattle.ifc_instances.specs.Least.{LeastOf};
-ghost use Rattle.model_build.specs.Least.{ShownBy};
+ghost use Rattle.model_build.specs.FaultyInstances.{ShownBy};
 ghost use Rattle.model_build.specs.Outcomes.{ShowsStuckSet};
 
 use crate::unsupported::lesser;

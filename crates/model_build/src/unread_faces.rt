@@ -3,10 +3,10 @@ ghost use Rattle.std.specs.Prelude.{◌≡◌, ℕ, true, Contains, Any, MatchOp
 ghost use Rattle.std.specs.Bool.{MatchBool};
 ghost use Rattle.std.specs.List.Sorted.{IsStrictlyIncreasing};
 ghost use Rattle.ifc_instances.specs.declared.entity.Entity.TheVariants.{FaceWithVoids};
-ghost use Rattle.ifc_instances.specs.Looking.{is_a};
+ghost use Rattle.ifc_instances.specs.EntityLookup.{is_a};
 ghost use Rattle.ifc_elements.specs.Finding.{Finds};
 ghost use Rattle.model_build.specs.Faces.{HasManyCorners};
-ghost use Rattle.model_build.specs.Least.{IsLeastOf, NoneOf, IsVoided};
+ghost use Rattle.model_build.specs.FaultyInstances.{IsLeastOf, NoneOf, IsVoided};
 
 use faceset::{MOST_CORNERS, outline};
 use ifc_instances::Entity;

@@ -1,9 +1,9 @@
 //! Items that aren't read (IFC4 ADD2 TC1, IfcShapeRepresentation, IfcMappedItem).
 ghost use Rattle.std.specs.Prelude.{◌≡◌, ℕ, ◌<◌, ◌∷◌, [], Contains, MatchOption};
-ghost use Rattle.ifc_schema.specs.Bodies.{is_body_representation};
+ghost use Rattle.ifc_schema.specs.BodyRepresentations.{is_body_representation};
 ghost use Rattle.ifc_elements.specs.Finding.{Finds};
 ghost use Rattle.ifc_instances.specs.Least.{LeastOf};
-ghost use Rattle.model_build.specs.Least.{ShownBy};
+ghost use Rattle.model_build.specs.FaultyInstances.{ShownBy};
 ghost use Rattle.model_build.specs.Showing.{lesser, HasOther, HasInner, BodyShows, MapShows};
 
 use ifc_elements::{is_body_representation, is_item, is_mapped_item, spelled_items};

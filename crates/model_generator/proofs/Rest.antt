@@ -2,8 +2,8 @@
 use Rattle.std.proofs.Common.{◌≡◌, ◌+◌, ◌-◌, ◌<◌, ℕ, zero, suc, length, List, ◌∷◌, ◌++◌, refl, sym, ◌∙◌, ap, arith}
 use Rattle.model_generator.specs.Cuboids.{cuboid_of}
 use Rattle.model_generator.specs.declared.cuboid.Cuboid.{Cuboid}
-use Rattle.model_generator.specs.Lines.{head, end, element_lines}
-use Rattle.model_generator.specs.Files.{rest_from}
+use Rattle.model_generator.specs.InstanceLines.{head, end, element_lines}
+use Rattle.model_generator.specs.GeneratedFiles.{rest_from}
 
 pub rest_more : (number place n : ℕ) → 0 < n → rest_from number place n ≡ element_lines place (cuboid_of number place) ++ rest_from number (place + 1) (n - 1)
 rest_more number place zero some = absurd (omega arith)

@@ -1,7 +1,7 @@
 -- The cuboids of a generated model.
 use Rattle.std.specs.Prelude.{ℕ, ◌+◌, ◌*◌, ◌%◌, ◌<◌}
 use Rattle.model_generator.specs.declared.cuboid.Cuboid.{Cuboid}
-use Rattle.model_generator.specs.Numbers.{drawn}
+use Rattle.model_generator.specs.RandomNumbers.{drawn}
 
 -- the cuboid of a place, from 0: six numbers are drawn for each, the low corner and then the sizes
 abbrev pub cuboid_of : ℕ → ℕ → Cuboid

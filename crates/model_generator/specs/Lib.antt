@@ -1,6 +1,6 @@
-pub mod Numbers
+pub mod RandomNumbers
 pub mod Cuboids
 pub mod Phrases
-pub mod Lines
-pub mod Files
-pub mod Pieces
+pub mod InstanceLines
+pub mod GeneratedFiles
+pub mod RemainingBytes

@@ -1,6 +1,6 @@
 //! The elements of a generated model: cuboids along the axes.
 ghost use Rattle.std.specs.Prelude.{◌≡◌, ◌*◌, ◌+◌, ◌<◌, ◌/◌, ◌%◌, ◌^◌, ℕ};
-ghost use Rattle.model_generator.specs.Numbers.{after, state_at};
+ghost use Rattle.model_generator.specs.RandomNumbers.{after, state_at};
 ghost use Rattle.model_generator.specs.Cuboids.{cuboid_of, IsSmall};
 
 use crate::pseudorandom::draw;

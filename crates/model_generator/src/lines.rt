@@ -1,7 +1,7 @@
 //! The lines of a generated file.
 ghost use Rattle.std.specs.Prelude.{◌≡◌, ◌<◌, string_bytes, IfOk};
 ghost use Rattle.model_generator.specs.Cuboids.{IsSmall};
-ghost use Rattle.model_generator.specs.Lines.{head, end, whole, corner, edge, corners_at, corners, triples, class_of, guid_front, guid_back, guid_of, name, named, front_of, line_of, points_line, set_back, set_line, surface_lines, shape_lines, subject_front, subject_back, subject_line, element_lines};
+ghost use Rattle.model_generator.specs.InstanceLines.{head, end, whole, corner, edge, corners_at, corners, triples, class_of, guid_front, guid_back, guid_of, name, named, front_of, line_of, points_line, set_back, set_line, surface_lines, shape_lines, subject_front, subject_back, subject_line, element_lines};
 
 use crate::cuboid::Cuboid;
 use crate::phrases::{Phrase, text_of};
@@ -16,7 +16,7 @@ const END: &str = "ENDSEC;\nEND-ISO-10303-21;\n";
 const TRIPLES: &str =
     "(1,3,2),(2,3,4),(5,6,7),(6,8,7),(1,2,5),(2,6,5),(3,7,4),(4,7,8),(1,5,3),(3,5,7),(2,4,6),(4,8,6)";
 
-#[tactic(auto, unfolding(crate::specs::Lines::triples))]
+#[tactic(auto, unfolding(crate::specs::InstanceLines::triples))]
 fn triples() -> &'static str
     ensures { result.now ≡ triples }
 {
@@ -24,7 +24,7 @@ fn triples() -> &'static str
 }
 
 /// The lines before the elements.
-#[tactic(auto, unfolding(crate::specs::Lines::head))]
+#[tactic(auto, unfolding(crate::specs::InstanceLines::head))]
 pub fn head() -> &'static str
     ensures { result.now ≡ head }
 {
@@ -32,7 +32,7 @@ pub fn head() -> &'static str
 }
 
 /// The lines behind them.
-#[tactic(auto, unfolding(crate::specs::Lines::end))]
+#[tactic(auto, unfolding(crate::specs::InstanceLines::end))]
 pub fn end() -> &'static str
     ensures { result.now ≡ end }
 {
@@ -40,7 +40,7 @@ pub fn end() -> &'static str
 }
 
 // A whole number in decimal.
-#[tactic(auto, unfolding(crate::specs::Lines::whole))]
+#[tactic(auto, unfolding(crate::specs::InstanceLines::whole))]
 fn whole(alloc: Global, number: u32) -> Result<String, AllocError>
     ensures { IfOk result (λ text. string_bytes text ≡ whole number) }
 {
@@ -148,7 +148,7 @@ fn line_of(alloc: Global, id: u32, phrase: Phrase, named: u32) -> Result<String,
 }
 
 // The class of the element of that place.
-#[tactic(auto, unfolding(crate::specs::Lines::class_of))]
+#[tactic(auto, unfolding(crate::specs::InstanceLines::class_of))]
 fn class_of(place: u32) -> &'static str
     ensures { result.now ≡ class_of place }
 {

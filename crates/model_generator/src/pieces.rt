@@ -1,9 +1,9 @@
 //! A generated file, piece by piece.
 ghost use Rattle.std.specs.Prelude.{◌≡◌, ◌≤◌, ◌<◌, ◌+◌, ◌*◌, ◌++◌, [], ℕ, length, string_bytes, IfOk, IfSome, MatchOption, OnErr};
-ghost use Rattle.model_generator.specs.Numbers.{state_at};
+ghost use Rattle.model_generator.specs.RandomNumbers.{state_at};
 ghost use Rattle.model_generator.specs.Cuboids.{cuboid_of};
-ghost use Rattle.model_generator.specs.Lines.{element_lines};
-ghost use Rattle.model_generator.specs.Files.{generated};
+ghost use Rattle.model_generator.specs.InstanceLines.{element_lines};
+ghost use Rattle.model_generator.specs.GeneratedFiles.{generated};
 
 use crate::cuboid::draw_cuboid;
 use crate::lines::{element_lines, end, head};
@@ -34,8 +34,8 @@ pub struct Pieces {
 
 impl Model for Pieces {
     ghost use Rattle.std.specs.Prelude.{◌≡◌, ◌≤◌, ◌+◌, ◌*◌, List, ℕ};
-    ghost use Rattle.model_generator.specs.Numbers.{state_at};
-    ghost use Rattle.model_generator.specs.Pieces.{left_of};
+    ghost use Rattle.model_generator.specs.RandomNumbers.{state_at};
+    ghost use Rattle.model_generator.specs.RemainingBytes.{left_of};
     ghost use Rattle.model_generator.specs.declared.pieces.TheConstants.{MOST_GENERATED};
 
     ghost Value = { List ℕ };

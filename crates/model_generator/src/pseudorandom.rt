@@ -1,13 +1,13 @@
 //! Numbers that look as if they were thrown, and are the same each time.
 ghost use Rattle.std.specs.Prelude.{◌≡◌, ◌<◌, ◌/◌, ◌^◌};
-ghost use Rattle.model_generator.specs.Numbers.{after};
+ghost use Rattle.model_generator.specs.RandomNumbers.{after};
 
 const FACTOR: u128 = 6364136223846793005;
 
 const STEP: u128 = 1442695040888963407;
 
 // The state that follows.
-#[tactic(auto, unfolding(crate::specs::Numbers::after))]
+#[tactic(auto, unfolding(crate::specs::RandomNumbers::after))]
 fn after(state: u64) -> u64
     ensures { result ≡ after state }
 {

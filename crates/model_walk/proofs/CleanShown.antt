@@ -9,17 +9,17 @@ use Rattle.p21_values.specs.declared.value.Value21.{Value21}
 use Rattle.p21_values.specs.declared.value.Instance.{Instance}
 use Rattle.p21_values.specs.Values.{items_of}
 use Rattle.ifc_instances.specs.declared.entity.Entity.TheVariants.{PointList}
-use Rattle.ifc_instances.specs.Looking.{is_a}
+use Rattle.ifc_instances.specs.EntityLookup.{is_a}
 use Rattle.ifc_schema.specs.Flaws.{InstanceFlaw}
 use Rattle.ifc_units.specs.declared.scale.Scale.{Scale}
 use Rattle.ifc_units.specs.declared.length_error.GridFault.{GridFault}
 use Rattle.ifc_units.specs.Lengths.{ArePoints, PointsRefused, ListRefused, InstanceRefused}
 use Rattle.ifc_units.proofs.PointFacts.{points_apart}
-use Rattle.faceset.specs.Sets.{is_set}
+use Rattle.faceset.specs.FaceSets.{is_set}
 use Rattle.walk_rows.specs.Rows.{triangles_at}
 use Rattle.model_walk.specs.declared.set_pool.SetRows.{SetRows}
 use Rattle.model_walk.specs.Clean.{ShowsNone, IsClean}
-use Rattle.model_walk.specs.Kept.{HasPoints, IsRead}
+use Rattle.model_walk.specs.PooledSets.{HasPoints, IsRead}
 use Rattle.model_walk.proofs.SetEntities.{list_no_set}
 use Rattle.model_walk.proofs.SetForms.{listed_is, list_formed}
 

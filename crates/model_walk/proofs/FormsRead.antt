@@ -17,7 +17,7 @@ use Rattle.ifc_schema.specs.Flaws.{LeafFlaw, ItemsFlaw, ListFlaw, NumberFlaw, Wh
 use Rattle.ifc_units.specs.declared.scale.Scale.{Scale}
 use Rattle.ifc_units.specs.Lengths.{IsLength, IsPoint, ArePoints}
 use Rattle.faceset.specs.Indexes.{PointsAt}
-use Rattle.faceset.specs.Sets.{IsCorner, IsTriangle, AreTriangles}
+use Rattle.faceset.specs.FaceSets.{IsCorner, IsTriangle, AreTriangles}
 
 -- Leaves.
 

@@ -8,12 +8,12 @@ use Rattle.bim_model.specs.Points.{IsGridPoint}
 use Rattle.bim_model.specs.Models.{IsInReach}
 use Rattle.p21_values.specs.declared.value.Instance.{Instance}
 use Rattle.p21_values.specs.Attributes.{listed, reference_at}
-use Rattle.p21_values.specs.Places.{IsPlaceOf}
+use Rattle.p21_values.specs.InstancePlaces.{IsPlaceOf}
 use Rattle.p21_values.proofs.PlaceLemmas.{found_at, some_instance}
 use Rattle.ifc_units.specs.declared.scale.Scale.{Scale}
 use Rattle.ifc_units.specs.Lengths.{IsPoint}
 use Rattle.ifc_units.proofs.PointFacts.{point_near}
-use Rattle.faceset.specs.Sets.{is_set, numbering, spelled_points, SetTriangles}
+use Rattle.faceset.specs.FaceSets.{is_set, numbering, spelled_points, SetTriangles}
 use Rattle.faceset.proofs.Held.{set_holds}
 use Rattle.faceset.proofs.Zips.{zip_length, zip_all}
 use Rattle.ifc_elements.proofs.OneSet.{own_points}
@@ -24,7 +24,7 @@ use Rattle.walk_rows.specs.SetRows.{HasNumbering, NamesPoints, NamesFaces}
 use Rattle.walk_rows.proofs.IndexesNamed.{set_good}
 use Rattle.walk_rows.proofs.RowsCounted.{set_count}
 use Rattle.model_walk.specs.declared.set_pool.SetRows.{SetRows}
-use Rattle.model_walk.specs.Kept.{ArePooled, IsRead}
+use Rattle.model_walk.specs.PooledSets.{ArePooled, IsRead}
 use Rattle.model_walk.proofs.SetForms.{set_formed}
 
 -- points of a pool lie on the grid

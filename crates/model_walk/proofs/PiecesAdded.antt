@@ -11,16 +11,16 @@ use Rattle.bim_model.specs.declared.upload.Mode.{Mode}
 use Rattle.p21_values.specs.declared.value.Value21.{Value21}
 use Rattle.p21_values.specs.declared.value.Instance.{Instance}
 use Rattle.p21_values.specs.Attributes.{reference_at, led_to}
-use Rattle.p21_values.specs.Looking.{look}
-use Rattle.p21_values.specs.Places.{IsPlaceOf}
+use Rattle.p21_values.specs.InstanceLookup.{look}
+use Rattle.p21_values.specs.InstancePlaces.{IsPlaceOf}
 use Rattle.p21_values.specs.Values.{reference_of}
 use Rattle.p21_values.proofs.PlaceLemmas.{some_instance, found_at}
 use Rattle.ifc_instances.proofs.LedTo.{led_append, led_one}
-use Rattle.ifc_schema.specs.Bodies.{is_body_representation}
+use Rattle.ifc_schema.specs.BodyRepresentations.{is_body_representation}
 use Rattle.ifc_units.specs.declared.scale.Scale.{Scale}
 use Rattle.placement.specs.declared.frame.Frame.{Frame}
 use Rattle.placement.specs.Operators.{OperatorFrame}
-use Rattle.faceset.specs.Sets.{Joined, triangle_count}
+use Rattle.faceset.specs.FaceSets.{Joined, triangle_count}
 use Rattle.faceset.proofs.Joins.{joined_one, joined_append}
 use Rattle.ifc_elements.specs.Items.{is_mapped_item, mapped_sets, spelled_sets, items_of, bodies_among}
 use Rattle.ifc_elements.specs.Sound.{KeptSet, KeptMapped, KeptItem}
@@ -30,8 +30,8 @@ use Rattle.ifc_elements.proofs.OneSurface.{same_map}
 use Rattle.ifc_elements.proofs.TrianglesAdded.{joined_first, joined_length, mapped_kept, set_kept}
 use Rattle.model_walk.specs.declared.set_pool.SetRows.{SetRows}
 use Rattle.model_walk.specs.declared.shape_pieces.Piece.{Piece}
-use Rattle.model_walk.specs.Kept.{IsRead, AreReadSets}
-use Rattle.model_walk.specs.Pieces.{AddsShown, IsOperator, Carried}
+use Rattle.model_walk.specs.PooledSets.{IsRead, AreReadSets}
+use Rattle.model_walk.specs.SurfacePieces.{AddsShown, IsOperator, Carried}
 use Rattle.model_walk.specs.Sketches.{IsCarried, rows_with, kept_triangles, piece_triangles, pieces_triangles}
 use Rattle.model_walk.specs.Stocked.{AddsPieces}
 use Rattle.walk_rows.specs.Pools.{pooled}

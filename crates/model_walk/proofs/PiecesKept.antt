@@ -15,12 +15,12 @@ use Rattle.bim_model.specs.Boxes.{corners_of}
 use Rattle.bim_model.specs.Models.{IsInReach}
 use Rattle.p21_values.specs.declared.value.Instance.{Instance}
 use Rattle.p21_values.specs.Attributes.{reference_at, target_at}
-use Rattle.p21_values.specs.Looking.{look}
-use Rattle.p21_values.specs.Places.{IsPlaceOf}
+use Rattle.p21_values.specs.InstanceLookup.{look}
+use Rattle.p21_values.specs.InstancePlaces.{IsPlaceOf}
 use Rattle.p21_values.proofs.PlaceLemmas.{some_instance, trichotomy, found_at}
 use Rattle.p21_values.proofs.ValueLemmas.{one}
 use Rattle.ifc_units.specs.declared.scale.Scale.{Scale}
-use Rattle.faceset.specs.Sets.{Joined}
+use Rattle.faceset.specs.FaceSets.{Joined}
 use Rattle.ifc_elements.specs.Items.{items_of, bodies_among, listed_by, body_items}
 use Rattle.ifc_elements.specs.Sound.{KeptItem}
 use Rattle.ifc_elements.specs.Surfaces.{placed_by}
@@ -28,7 +28,7 @@ use Rattle.model_walk.specs.declared.sketch_list.Sketch.{Sketch}
 use Rattle.model_walk.specs.declared.element_sketches.Stock.{Stock}
 use Rattle.model_walk.specs.declared.shape_pieces.Piece.{Piece}
 use Rattle.model_walk.specs.declared.shape_pieces.Range.{Range}
-use Rattle.model_walk.specs.Kept.{AreReadSets}
+use Rattle.model_walk.specs.PooledSets.{AreReadSets}
 use Rattle.model_walk.specs.Sketches.{rows_with, pieces_triangles, pieces_in, range_triangles, IsCarried, IsSoundStock, IsRangeIn, IsNearSketch}
 use Rattle.model_walk.specs.Stocked.{AddsPieces, shape_items, ShowsItems, IsStocked, Grows}
 use Rattle.walk_rows.specs.Pools.{pooled, Pools}

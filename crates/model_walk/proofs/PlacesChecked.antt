@@ -10,9 +10,9 @@ use Rattle.bim_model.specs.declared.geometry.Point.{Point}
 use Rattle.p21_values.specs.declared.value.Instance.{Instance}
 use Rattle.p21_values.proofs.PlaceLemmas.{some_instance, found_at, place_found}
 use Rattle.ifc_instances.specs.declared.entity.Entity.TheVariants.{PointList}
-use Rattle.ifc_instances.specs.Looking.{is_a}
+use Rattle.ifc_instances.specs.EntityLookup.{is_a}
 use Rattle.ifc_schema.specs.declared.worklist.Work.{Work}
-use Rattle.ifc_schema.specs.Marks.{Known, mark_at, is_mapped}
+use Rattle.ifc_schema.specs.InstanceMarks.{Known, mark_at, is_mapped}
 use Rattle.ifc_schema.specs.Used.{IsMapped}
 use Rattle.ifc_schema.proofs.Following.{number_once, mapped_rank, rank_mapped}
 use Rattle.ifc_schema.proofs.Listing.{used_found}
@@ -20,7 +20,7 @@ use Rattle.ifc_units.specs.declared.scale.Scale.{Scale}
 use Rattle.model_walk.specs.declared.set_pool.SetRows.{SetRows}
 use Rattle.model_walk.specs.Clean.{IsClean}
 use Rattle.model_walk.specs.Checked.{IsCleanBy, CleanThere, AllClean}
-use Rattle.model_walk.specs.Kept.{HasPoints, ArePooled, HasLists, IsRead, AreReadSets}
+use Rattle.model_walk.specs.PooledSets.{HasPoints, ArePooled, HasLists, IsRead, AreReadSets}
 use Rattle.walk_rows.specs.Pools.{pooled, Pools}
 
 -- The instance at a place.

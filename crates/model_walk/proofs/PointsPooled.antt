@@ -8,15 +8,15 @@ use Rattle.bim_model.specs.declared.upload.Mode.{Mode}
 use Rattle.bim_model.specs.declared.geometry.Point.{Point}
 use Rattle.p21_values.specs.declared.value.Instance.{Instance}
 use Rattle.ifc_instances.specs.declared.entity.Entity.TheVariants.{PointList}
-use Rattle.ifc_instances.specs.Looking.{is_a}
+use Rattle.ifc_instances.specs.EntityLookup.{is_a}
 use Rattle.ifc_instances.proofs.Rising.{below_next}
 use Rattle.ifc_schema.specs.declared.worklist.Mark.{Mark}
 use Rattle.ifc_schema.specs.declared.worklist.Mark.TheVariants.{Unseen, Used as Met, Mapped}
 use Rattle.ifc_schema.specs.declared.worklist.Work.{Work}
-use Rattle.ifc_schema.specs.Marks.{rank, rank_at, is_seen}
+use Rattle.ifc_schema.specs.InstanceMarks.{rank, rank_at, is_seen}
 use Rattle.ifc_units.specs.declared.scale.Scale.{Scale}
 use Rattle.walk_rows.specs.Pools.{pooled, Pools}
-use Rattle.model_walk.specs.Kept.{HasPoints, ArePooled, HasLists}
+use Rattle.model_walk.specs.PooledSets.{HasPoints, ArePooled, HasLists}
 
 -- Pools.
 

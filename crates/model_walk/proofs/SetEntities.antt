@@ -7,11 +7,11 @@ use Rattle.ifc_instances.specs.declared.entity.Entity.{Entity}
 use Rattle.ifc_instances.specs.declared.entity.Entity.TheVariants as entity
 use Rattle.ifc_instances.specs.Coded.{has_code, by_code}
 use Rattle.ifc_instances.specs.Entities.{is_of}
-use Rattle.ifc_instances.specs.Looking.{entity_at, is_a, is_keyword_of}
+use Rattle.ifc_instances.specs.EntityLookup.{entity_at, is_a, is_keyword_of}
 use Rattle.ifc_instances.proofs.CodedEntities.{is_a_coded, entity_coded}
 use Rattle.ifc_schema.specs.declared.form.Targets.TheVariants as targets
 use Rattle.ifc_schema.specs.Forms.{holds}
-use Rattle.faceset.specs.Sets.{is_set, is_polygonal}
+use Rattle.faceset.specs.FaceSets.{is_set, is_polygonal}
 
 entity_by : (X : Entity) (i : Instance) → ((n : ℕ) → has_code X n ≡ true → by_code n ≡ Some X) → is_a X i ≡ true → entity_at i ≡ Some X
 entity_by X i f h = sym (entity_coded i.keyword) ∙ f (code_at i.keyword) (is_a_coded X i.keyword ∙ h)

@@ -12,11 +12,11 @@ use Rattle.bim_model.specs.declared.geometry.Triangle.{Triangle}
 use Rattle.p21_values.specs.declared.value.Value21.{Value21}
 use Rattle.p21_values.specs.declared.value.Instance.{Instance}
 use Rattle.p21_values.specs.Values.{reference_of, items_of, is_absent}
-use Rattle.p21_values.specs.Looking.{look}
+use Rattle.p21_values.specs.InstanceLookup.{look}
 use Rattle.p21_values.specs.Attributes.{listed, led_to, reference_at}
 use Rattle.ifc_instances.specs.declared.entity.Entity.{Entity}
 use Rattle.ifc_instances.specs.declared.entity.Entity.TheVariants as entity
-use Rattle.ifc_instances.specs.Looking.{is_a}
+use Rattle.ifc_instances.specs.EntityLookup.{is_a}
 use Rattle.ifc_schema.specs.declared.flaw.Flaw.{Flaw}
 use Rattle.ifc_schema.specs.declared.flaw.Flaw.TheVariants.{BadShape}
 use Rattle.ifc_schema.specs.declared.form.Attribute.{Attribute}
@@ -30,14 +30,14 @@ use Rattle.ifc_schema.specs.declared.form.Shape.TheVariants as shape
 use Rattle.ifc_schema.specs.declared.form.Need.TheVariants.{Must, OrMissing}
 use Rattle.ifc_schema.specs.declared.form.When.TheVariants.{Always}
 use Rattle.ifc_schema.specs.Forms.{holds}
-use Rattle.ifc_schema.specs.Table.{row_of, attribute, row_or_none}
+use Rattle.ifc_schema.specs.AttributeTable.{row_of, attribute, row_or_none}
 use Rattle.ifc_schema.specs.Flaws.{LeafFlaw, ListFlaw, ItemsFlaw, ShapeFlaw, PlaceFlaw, AttributeFlaw, InstanceFlaw, bad_unless, target_flaw, wanted_flaw, reference_flaw}
 use Rattle.ifc_units.specs.declared.scale.Scale.{Scale}
 use Rattle.ifc_units.specs.Lengths.{IsPoint, ArePoints}
-use Rattle.faceset.specs.Sets.{is_set, is_polygonal, numbering, numbering_place, faces_of, IsCut, IsTriangle, AreTriangles, Joined, SetTriangles}
+use Rattle.faceset.specs.FaceSets.{is_set, is_polygonal, numbering, numbering_place, faces_of, IsCut, IsTriangle, AreTriangles, Joined, SetTriangles}
 use Rattle.faceset.proofs.Zips.{zip_length}
 use Rattle.walk_rows.specs.SetRows.{HasNumbering, NamesOne, NamesPoints, LeadsToFace, NamesFaces}
-use Rattle.model_walk.specs.Kept.{HasPoints}
+use Rattle.model_walk.specs.PooledSets.{HasPoints}
 use Rattle.model_walk.proofs.FormsRead.{whole_leaf, rows_formed, points_formed}
 use Rattle.model_walk.proofs.SetEntities.{list_entity, triangulated_entity, triangulated_set, polygonal_entity, held_one, held_face}
 

@@ -12,13 +12,13 @@ use Rattle.bim_model.specs.declared.geometry.Triangle.{Triangle}
 use Rattle.p21_values.specs.declared.value.Instance.{Instance}
 use Rattle.p21_values.specs.declared.value.Value21.{Value21}
 use Rattle.p21_values.specs.Values.{reference_of}
-use Rattle.p21_values.specs.Looking.{look}
+use Rattle.p21_values.specs.InstanceLookup.{look}
 use Rattle.placement.specs.declared.frame.Frame.{Frame}
 use Rattle.placement.specs.Placed.{AllPlaced}
 use Rattle.p21_values.proofs.PlaceLemmas.{place_found}
 use Rattle.ifc_units.specs.declared.scale.Scale.{Scale}
 use Rattle.ifc_elements.specs.Items.{body_items, item_count, counted, count_of}
-use Rattle.ifc_elements.specs.Making.{IsNearElement}
+use Rattle.ifc_elements.specs.ElementReadiness.{IsNearElement}
 use Rattle.ifc_elements.specs.Storeys.{IsStoreyName}
 use Rattle.ifc_elements.specs.Surfaces.{ItemSurface, placed_by}
 use Rattle.ifc_elements.proofs.TrianglesAdded.{joined_first, joined_length}

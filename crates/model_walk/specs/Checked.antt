@@ -4,7 +4,7 @@ use Rattle.std.specs.List.{HoldsAt}
 use Rattle.bim_model.specs.declared.upload.Mode.{Mode}
 use Rattle.bim_model.specs.declared.element.Element.{Element}
 use Rattle.p21_values.specs.declared.value.Instance.{Instance}
-use Rattle.p21_values.specs.Places.{IsPlaceOf}
+use Rattle.p21_values.specs.InstancePlaces.{IsPlaceOf}
 use Rattle.ifc_schema.specs.Used.{Used}
 use Rattle.ifc_units.specs.declared.scale.Scale.{Scale}
 use Rattle.model_walk.specs.Clean.{IsClean, IsCleanAt}

@@ -7,11 +7,11 @@ use Rattle.bim_text.specs.Decimals.{WritesWhole}
 use Rattle.p21_values.specs.declared.value.Value21.{Value21}
 use Rattle.p21_values.specs.declared.value.Instance.{Instance}
 use Rattle.p21_values.specs.Values.{number_of, reference_of}
-use Rattle.p21_values.specs.Looking.{look}
+use Rattle.p21_values.specs.InstanceLookup.{look}
 use Rattle.p21_values.specs.Attributes.{reference_at}
 use Rattle.ifc_instances.specs.declared.entity.Entity.TheVariants.{Representation, AxisPlacement, Operator, RepresentationMap, Point, Face, FaceWithVoids}
-use Rattle.ifc_instances.specs.Looking.{is_a}
-use Rattle.ifc_schema.specs.Bodies.{is_body}
+use Rattle.ifc_instances.specs.EntityLookup.{is_a}
+use Rattle.ifc_schema.specs.BodyRepresentations.{is_body}
 use Rattle.ifc_schema.specs.Flaws.{InstanceFlaw}
 use Rattle.ifc_schema.specs.Used.{IsMapped}
 use Rattle.ifc_units.specs.declared.scale.Scale.{Scale}
@@ -23,7 +23,7 @@ use Rattle.placement.specs.declared.frame.Frame.{Frame}
 use Rattle.placement.specs.Directions.{HasAxes}
 use Rattle.placement.specs.Operators.{HasOperatorAxes}
 use Rattle.placement.specs.Placed.{AxisFrame}
-use Rattle.faceset.specs.Sets.{is_set, outline, most_corners, HasBadIndex}
+use Rattle.faceset.specs.FaceSets.{is_set, outline, most_corners, HasBadIndex}
 use Rattle.ifc_elements.specs.Finding.{Finds}
 use Rattle.ifc_elements.specs.Items.{spelled_items, is_item, is_mapped_item}
 use Rattle.ifc_elements.specs.Sound.{IsKept}

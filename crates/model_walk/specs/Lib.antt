@@ -1,9 +1,9 @@
-pub mod Kept
+pub mod PooledSets
 pub mod SketchLists
 pub mod Sketches
-pub mod Pieces
+pub mod SurfacePieces
 pub mod Clean
 pub mod Stocked
 pub mod Walked
 pub mod Checked
-pub mod Slots
+pub mod GuidSlots

@@ -8,14 +8,14 @@ use Rattle.bim_model.specs.declared.limits.TheConstants.{MOST_TRIANGLES}
 use Rattle.bim_model.specs.Guids.{IsGuid}
 use Rattle.p21_values.specs.declared.value.Instance.{Instance}
 use Rattle.ifc_units.specs.declared.scale.Scale.{Scale}
-use Rattle.faceset.specs.Sets.{Joined}
+use Rattle.faceset.specs.FaceSets.{Joined}
 use Rattle.ifc_elements.specs.Framed.{Framed}
 use Rattle.ifc_elements.specs.Items.{bodies_of, items_of, body_items, count_of}
-use Rattle.ifc_elements.specs.Making.{IsNearElement}
+use Rattle.ifc_elements.specs.ElementReadiness.{IsNearElement}
 use Rattle.ifc_elements.specs.Sound.{KeptItem}
 use Rattle.ifc_elements.specs.Storeys.{IsStoreyName}
 use Rattle.ifc_elements.specs.Surfaces.{IsPlacedBy}
-use Rattle.ifc_elements.specs.Texts.{guid_of, name_of}
+use Rattle.ifc_elements.specs.ElementTexts.{guid_of, name_of}
 use Rattle.model_walk.specs.declared.element_sketches.Drawn.{Drawn}
 use Rattle.model_walk.specs.declared.element_sketches.Placing.{Placing}
 use Rattle.model_walk.specs.declared.element_sketches.Placing.TheVariants.{Free, By, Unknown}
@@ -24,7 +24,7 @@ use Rattle.model_walk.specs.declared.element_sketches.Stock.{Stock}
 use Rattle.model_walk.specs.declared.set_pool.SetRows.{SetRows}
 use Rattle.model_walk.specs.declared.shape_pieces.Piece.{Piece}
 use Rattle.model_walk.specs.declared.shape_pieces.Range.{Range}
-use Rattle.model_walk.specs.Kept.{AreReadSets}
+use Rattle.model_walk.specs.PooledSets.{AreReadSets}
 use Rattle.model_walk.specs.Sketches.{pieces_triangles, range_triangles, elements_of, IsCarried, IsSoundStock, IsRangeIn, IsNearSketch}
 use Rattle.walk_rows.specs.Pools.{pooled}
 

@@ -11,7 +11,7 @@ use Rattle.ifc_units.specs.declared.scale.Scale.{Scale}
 use Rattle.ifc_units.specs.Units.{IsLengthUnit}
 use Rattle.spatial_tree.specs.Trees.{IsTree}
 use Rattle.ifc_elements.specs.Items.{count_of}
-use Rattle.ifc_elements.specs.Making.{IsNearElement}
+use Rattle.ifc_elements.specs.ElementReadiness.{IsNearElement}
 use Rattle.model_walk.specs.Clean.{IsCleanAt}
 
 -- The file has a length unit and a tree; all that is used is clean; and these are its elements, by rising numbers: in reach, each with a triangle,

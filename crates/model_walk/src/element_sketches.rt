@@ -10,9 +10,9 @@ ghost use Rattle.placement.specs.Placed.{AllPlaced, frame_in};
 ghost use Rattle.spatial_tree.specs.Trees.{ListsStoreys};
 ghost use Rattle.ifc_elements.specs.Framed.{Framed};
 ghost use Rattle.ifc_elements.specs.Items.{body_items};
-ghost use Rattle.ifc_elements.specs.Names.{AreNames};
+ghost use Rattle.ifc_elements.specs.StoreyNames.{AreNames};
 ghost use Rattle.ifc_elements.specs.Surfaces.{IsPlacedBy};
-ghost use Rattle.ifc_elements.specs.Texts.{guid_of};
+ghost use Rattle.ifc_elements.specs.ElementTexts.{guid_of};
 ghost use Rattle.model_walk.specs.Stocked.{shape_items, ShowsItems, IsStocked, Grows, IsPlacing, AddsBare, Draws, AreDrawn};
 ghost use Rattle.walk_rows.specs.Pools.{pooled};
 

@@ -3,12 +3,12 @@ ghost use Rattle.std.specs.Prelude.{◌≡◌, ◌<◌, ℕ, List, length, IfOk,
 ghost use Rattle.std.specs.Bool.{MatchBool, OnTrue};
 ghost use Rattle.bim_model.specs.declared.geometry.Point.{Point};
 ghost use Rattle.ifc_instances.specs.declared.entity.Entity.TheVariants.{PointList};
-ghost use Rattle.ifc_instances.specs.Looking.{is_a};
-ghost use Rattle.ifc_schema.specs.Marks.{Known, rank_at};
+ghost use Rattle.ifc_instances.specs.EntityLookup.{is_a};
+ghost use Rattle.ifc_schema.specs.InstanceMarks.{Known, rank_at};
 ghost use Rattle.ifc_units.specs.Lengths.{ArePoints};
 ghost use Rattle.p21_values.specs.Attributes.{listed};
 ghost use Rattle.walk_rows.specs.Pools.{Pools};
-ghost use Rattle.model_walk.specs.Kept.{HasPoints, ArePooled, HasLists};
+ghost use Rattle.model_walk.specs.PooledSets.{HasPoints, ArePooled, HasLists};
 
 use bim_model::{Items, Mode, Point};
 use ifc_instances::Entity;

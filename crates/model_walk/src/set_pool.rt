@@ -4,11 +4,11 @@ ghost use Rattle.std.specs.Bool.{OnTrue};
 ghost use Rattle.bim_model.specs.declared.upload.Mode.{Mode};
 ghost use Rattle.ifc_units.specs.declared.scale.Scale.{Scale};
 ghost use Rattle.p21_values.specs.Attributes.{reference_at};
-ghost use Rattle.p21_values.specs.Places.{IsPlaceOf};
-ghost use Rattle.faceset.specs.Sets.{is_set};
+ghost use Rattle.p21_values.specs.InstancePlaces.{IsPlaceOf};
+ghost use Rattle.faceset.specs.FaceSets.{is_set};
 ghost use Rattle.model_walk.specs.declared.set_pool.SetRows.{SetRows};
 ghost use Rattle.walk_rows.specs.Pools.{Pools};
-ghost use Rattle.model_walk.specs.Kept.{ArePooled, IsRead};
+ghost use Rattle.model_walk.specs.PooledSets.{ArePooled, IsRead};
 
 use bim_model::{Items, Point};
 use p21_table::{Exchange, InstanceRef};

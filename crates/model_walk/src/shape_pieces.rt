@@ -5,11 +5,11 @@ ghost use Rattle.bim_model.specs.declared.geometry.Point.{Point};
 ghost use Rattle.bim_model.specs.declared.upload.Mode.{Mode};
 ghost use Rattle.p21_values.specs.Attributes.{led_to};
 ghost use Rattle.ifc_units.specs.declared.scale.Scale.{Scale};
-ghost use Rattle.faceset.specs.Sets.{Joined};
+ghost use Rattle.faceset.specs.FaceSets.{Joined};
 ghost use Rattle.ifc_elements.specs.Items.{items_of, bodies_among};
 ghost use Rattle.ifc_elements.specs.Sound.{KeptSet, KeptMapped};
-ghost use Rattle.model_walk.specs.Kept.{AreReadSets};
-ghost use Rattle.model_walk.specs.Pieces.{AddsShown, Carried, IsOperator};
+ghost use Rattle.model_walk.specs.PooledSets.{AreReadSets};
+ghost use Rattle.model_walk.specs.SurfacePieces.{AddsShown, Carried, IsOperator};
 ghost use Rattle.model_walk.specs.Stocked.{AddsPieces, shape_items};
 
 use crate::set_pool::SetRows;

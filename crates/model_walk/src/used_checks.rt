@@ -2,13 +2,13 @@
 ghost use Rattle.std.specs.Prelude.{◌≡◌, ◌≤◌, true, false, length, All};
 ghost use Rattle.std.specs.Bool.{OnTrue};
 ghost use Rattle.ifc_instances.specs.declared.entity.Entity.TheVariants.{Representation, AxisPlacement, Operator, RepresentationMap, Point, Face, FaceWithVoids};
-ghost use Rattle.ifc_instances.specs.Looking.{is_a};
+ghost use Rattle.ifc_instances.specs.EntityLookup.{is_a};
 ghost use Rattle.ifc_units.specs.declared.length_error.GridFault.{GridFault};
 ghost use Rattle.ifc_units.specs.Lengths.{InstanceRefused};
 ghost use Rattle.placement.specs.declared.axes.Axes.{Axes};
 ghost use Rattle.placement.specs.Directions.{HasAxes};
 ghost use Rattle.placement.specs.Operators.{HasOperatorAxes};
-ghost use Rattle.faceset.specs.Sets.{outline, most_corners};
+ghost use Rattle.faceset.specs.FaceSets.{outline, most_corners};
 ghost use Rattle.ifc_elements.specs.Items.{is_mapped_item};
 ghost use Rattle.model_walk.specs.Clean.{LeadsToItem, HasReadItems, HasPlainScale, HasOperator, HasPlainOrigin, ShowsNone, grid_axis, identity};
 

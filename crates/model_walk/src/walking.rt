@@ -1,14 +1,14 @@
 //! The walk over what is used of a file.
 ghost use Rattle.std.specs.Prelude.{◌≡◌, ◌<◌, None, length, map, IfOk, IfSome};
 ghost use Rattle.std.specs.Bool.{OnTrue};
-ghost use Rattle.ifc_schema.specs.Bodies.{has_body, bodied_of};
+ghost use Rattle.ifc_schema.specs.BodyRepresentations.{has_body, bodied_of};
 ghost use Rattle.ifc_schema.specs.Flaws.{InstanceFlaw};
-ghost use Rattle.ifc_schema.specs.Marks.{Known, rank_at};
+ghost use Rattle.ifc_schema.specs.InstanceMarks.{Known, rank_at};
 ghost use Rattle.ifc_units.specs.Units.{IsLengthUnit};
 ghost use Rattle.placement.specs.Placed.{AllPlaced, frame_in};
 ghost use Rattle.spatial_tree.specs.Trees.{IsTree, ListsStoreys};
 ghost use Rattle.model_walk.specs.Checked.{IsCleanBy, CleanThere, AllClean, Differ, Alternate};
-ghost use Rattle.model_walk.specs.Kept.{ArePooled, HasLists, AreReadSets};
+ghost use Rattle.model_walk.specs.PooledSets.{ArePooled, HasLists, AreReadSets};
 ghost use Rattle.model_walk.specs.Stocked.{IsStocked};
 ghost use Rattle.model_walk.specs.Walked.{IsWalked};
 

@@ -1,7 +1,7 @@
 //! Tests of the forms in memory.
 ghost use Rattle.std.specs.Prelude.{true, IfOk, All};
 ghost use Rattle.bim_net.specs.Stores.{door_of};
-ghost use Rattle.bim_net.specs.Seen.{IsNew};
+ghost use Rattle.bim_net.specs.ConnectionViews.{IsNew};
 
 use bim_io::{Clock, MemSink, MemSource, Sink, Source, SureSink, SureSource};
 use bim_model::{Bytes, Items, Text};

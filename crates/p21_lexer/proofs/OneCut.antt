@@ -6,8 +6,8 @@ use Rattle.p21_lexer.specs.declared.token.Token.{Token}
 use Rattle.p21_lexer.specs.declared.token.LexFault.{LexFault}
 use Rattle.p21_lexer.specs.declared.token.LexFault.TheVariants.{BadToken}
 use Rattle.p21_lexer.specs.Spelling.{Spells}
-use Rattle.p21_lexer.specs.Scanning.{comment_span}
-use Rattle.p21_lexer.specs.Gaps.{has_close, IsBlank, IsComment, IsPiece, Passes, IsStop}
+use Rattle.p21_lexer.specs.TokenSpans.{comment_span}
+use Rattle.p21_lexer.specs.TokenSeparators.{has_close, IsBlank, IsComment, IsPiece, Passes, IsStop}
 use Rattle.p21_lexer.specs.Cutting.{IsFirst, StopsAt, CutsFrom, Tokens}
 use Rattle.p21_lexer.specs.Kinds.{kind_of}
 use Rattle.p21_lexer.proofs.Gapping.{and_false}

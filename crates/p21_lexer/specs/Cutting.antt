@@ -4,7 +4,7 @@ use Rattle.p21_lexer.specs.declared.token.Token.{Token}
 use Rattle.p21_lexer.specs.declared.token.LexFault.{LexFault}
 use Rattle.p21_lexer.specs.declared.token.LexFault.TheVariants.{BadToken}
 use Rattle.p21_lexer.specs.Spelling.{Spells}
-use Rattle.p21_lexer.specs.Gaps.{Skips}
+use Rattle.p21_lexer.specs.TokenSeparators.{Skips}
 
 -- How bytes are cut into tokens: from the left, the longest spelling each time (ISO 10303-21, section 6).
 

@@ -1,6 +1,6 @@
 pub mod Cutting
-pub mod Gaps
+pub mod TokenSeparators
 pub mod Kinds
-pub mod Scanning
+pub mod TokenSpans
 pub mod Spelling
 pub mod There

@@ -1,6 +1,6 @@
 //! Classes of bytes.
 ghost use Rattle.std.specs.Prelude.{◌≡◌};
-ghost use Rattle.p21_lexer.specs.Gaps.{is_blank as gap_blank};
+ghost use Rattle.p21_lexer.specs.TokenSeparators.{is_blank as gap_blank};
 ghost use Rattle.p21_lexer.specs.Spelling.{is_digit, is_letter, is_word_byte, is_letter_or_digit, is_hexadecimal, is_sign};
 
 /// Whether a byte is a blank: a space, a tab or an end of line.

@@ -1,7 +1,7 @@
 -- The token that is cut from behind a blank is cut from before it too.
 use Rattle.std.proofs.Common.{◌≡◌, ℕ, ◌+◌, ◌<◌, inl, List, [], ◌∷◌, length, get_or, drop, true, Some, Ok, refl, add-one, drop-cons}
 use Rattle.p21_lexer.specs.declared.token.Token.{Token}
-use Rattle.p21_lexer.specs.Gaps.{is_blank, IsPiece}
+use Rattle.p21_lexer.specs.TokenSeparators.{is_blank, IsPiece}
 use Rattle.p21_lexer.specs.Cutting.{StopsAt, CutsFrom}
 
 one_blank : (b : ℕ) → is_blank b ≡ true → IsPiece (b ∷ [])

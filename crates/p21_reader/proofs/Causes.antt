@@ -10,7 +10,7 @@ use Rattle.bim_model.specs.declared.upload.BuildError.TheVariants as errors
 use Rattle.p21_values.specs.declared.value.Instance.{Instance}
 use Rattle.p21_values.specs.Counting.{size, values_of, times}
 use Rattle.p21_reader.specs.Uploads.{IsIfc4Upload, IsLeastDouble, IsTooMany, SpellsExchange, HasFault, IsCause}
-use Rattle.p21_values.specs.Places.{Rises}
+use Rattle.p21_values.specs.InstancePlaces.{Rises}
 use Rattle.p21_values.specs.declared.limits.TheConstants.{MOST_VALUES, MOST_INSTANCES}
 use Rattle.p21_reader.proofs.OneAnswer.{refused}
 

@@ -23,10 +23,10 @@ use Rattle.p21_reader.specs.Machine.{next}
 use Rattle.p21_values.specs.Lexemes.{Lexeme, lexeme_of, class_of, says, Opening, Closing, Ending, Assigning, KeywordOf, ReferenceTo}
 use Rattle.p21_values.specs.Printing.{print_all}
 use Rattle.p21_values.specs.Counting.{size, values_of}
-use Rattle.p21_reader.specs.Reading.{Goes, Fails}
-use Rattle.p21_values.specs.Pieces.{kind_of}
+use Rattle.p21_reader.specs.TokenReading.{Goes, Fails}
+use Rattle.p21_values.specs.TokenPieces.{kind_of}
 use Rattle.p21_reader.specs.Instances.{Passes, SpellsBody}
-use Rattle.p21_reader.specs.Files.{ReadsClosing}
+use Rattle.p21_reader.specs.ExchangeFiles.{ReadsClosing}
 use Rattle.p21_values.specs.Standing.{StandAt}
 use Rattle.p21_reader.specs.Tabling.{Counts, PutsStarts, PutsBody, PutsInstance, TablesSection}
 use Rattle.p21_values.specs.Tables.{NamesKeyword, Tells, Holds}

@@ -11,8 +11,8 @@ use Rattle.p21_reader.specs.Machine.{next}
 use Rattle.p21_reader.specs.Instances.{Passes}
 use Rattle.p21_values.specs.Lexemes.{Lexeme, Opening, lexeme_of, class_of, Closing, Separator}
 use Rattle.p21_values.specs.Printing.{print, print_all, behind}
-use Rattle.p21_reader.specs.Reading.{Goes, Fails, ReadsValue}
-use Rattle.p21_values.specs.Pieces.{kind_of}
+use Rattle.p21_reader.specs.TokenReading.{Goes, Fails, ReadsValue}
+use Rattle.p21_values.specs.TokenPieces.{kind_of}
 use Rattle.p21_values.specs.Standing.{Stands}
 use Rattle.p21_reader.proofs.Steps.{goes_here, goes_trans, fails_after}
 use Rattle.p21_reader.proofs.Bodies.{opens_goes, opens_fails}

@@ -4,7 +4,7 @@ use Rattle.std.proofs.lemmas.List.{get_or-set_same, get_or-set_other}
 use Rattle.p21_values.specs.declared.piece.Kind.TheVariants as kinds
 use Rattle.p21_values.specs.Grammar.{Class, Simple, Name, Open, Close, Word, Sign, T, Value, Inside}
 use Rattle.p21_reader.specs.Machine.{next, step}
-use Rattle.p21_values.specs.Pieces.{kind_of}
+use Rattle.p21_values.specs.TokenPieces.{kind_of}
 use Rattle.p21_lexer.specs.declared.token.Token.{Token}
 use Rattle.p21_lexer.specs.Cutting.{CutsFrom}
 use Rattle.p21_values.specs.declared.fault.ReadFault.{ReadFault}
@@ -12,9 +12,9 @@ use Rattle.p21_values.specs.declared.fault.ReadFault.TheVariants as faults
 use Rattle.p21_reader.specs.declared.passing.Top.{Top}
 use Rattle.p21_reader.specs.declared.passing.Top.TheVariants as tops
 use Rattle.p21_values.specs.Lexemes.{lexeme_of, class_of}
-use Rattle.p21_reader.specs.Reading.{Goes, Fails}
-use Rattle.p21_values.specs.Pieces.{NoToken}
-use Rattle.p21_reader.specs.Passing.{wanted, signs}
+use Rattle.p21_reader.specs.TokenReading.{Goes, Fails}
+use Rattle.p21_values.specs.TokenPieces.{NoToken}
+use Rattle.p21_reader.specs.ValueNesting.{wanted, signs}
 use Rattle.p21_reader.proofs.Steps.{goes_one, goes_under, fails_none, fails_refused}
 
 -- levels that are open don't hang on what is kept above them

@@ -9,7 +9,7 @@ use Rattle.p21_reader.specs.Machine.{run, step}
 use Rattle.p21_values.specs.Lexemes.{Lexeme, Opening, Closing, Ending, Assigning, KeywordOf, ReferenceTo, lexeme_of, class_of, Cuts, classes}
 use Rattle.p21_values.specs.Printing.{print_all}
 use Rattle.p21_reader.specs.Instances.{SpellsBody, SpellsInstance, SpellsAll}
-use Rattle.p21_reader.specs.Files.{HoldsFile}
+use Rattle.p21_reader.specs.ExchangeFiles.{HoldsFile}
 use Rattle.p21_reader.specs.Schema.{Statement, SpellsStatement, SpellsStatements, SpellsHeading}
 use Rattle.p21_reader.proofs.Steps.{classes_append}
 use Rattle.p21_values.specs.Saying.{content, contents, saying}

@@ -7,10 +7,10 @@ use Rattle.p21_lexer.specs.declared.token.TokenKind.TheVariants as tokens
 use Rattle.p21_values.specs.declared.piece.Kind.{Kind}
 use Rattle.p21_values.specs.declared.piece.Kind.TheVariants as kinds
 use Rattle.p21_values.specs.Lexemes.{Lexeme, class_of, lexeme_of, says, single_says}
-use Rattle.p21_values.specs.Pieces.{kind_of}
+use Rattle.p21_values.specs.TokenPieces.{kind_of}
 use Rattle.p21_values.proofs.Seen.{alone_says}
 use Rattle.p21_reader.specs.declared.table.Table.{Table}
-use Rattle.p21_reader.specs.Passing.{tells}
+use Rattle.p21_reader.specs.ValueNesting.{tells}
 use Rattle.p21_reader.specs.Tabling.{Counts, PassesValue, PutsFirst, PutsBehind, PutsMore}
 use Rattle.p21_lexer.specs.Kinds.{kind_of as kind_by, span}
 use Rattle.p21_lexer.specs.There.{IsOneValue, IsValueThere}

@@ -6,7 +6,7 @@ use Rattle.p21_lexer.specs.declared.token.TokenKind.TheVariants as tokens
 use Rattle.p21_lexer.specs.Cutting.{CutsFrom}
 use Rattle.p21_values.specs.Grammar.{Sign, Inside, After}
 use Rattle.p21_values.specs.Lexemes.{Lexeme, Opening, Closing, Separator, NumberOf, lexeme_of, class_of, single_says, Cuts}
-use Rattle.p21_values.specs.Pieces.{IsSign, kind_of}
+use Rattle.p21_values.specs.TokenPieces.{IsSign, kind_of}
 use Rattle.p21_values.proofs.Seen.{alone_says}
 use Rattle.p21_values.proofs.SignsThere.{sign_cut}
 use Rattle.p21_reader.specs.declared.passing.Level.{Level}
@@ -14,8 +14,8 @@ use Rattle.p21_reader.specs.declared.passing.Reached.{Reached}
 use Rattle.p21_reader.specs.declared.passing.Top.{Top}
 use Rattle.p21_reader.specs.declared.passing.Top.TheVariants as tops
 use Rattle.p21_reader.specs.Machine.{run}
-use Rattle.p21_reader.specs.Passing.{wanted, signs, IsFit, row_rest, EndsRow, HasRow, HasRows}
-use Rattle.p21_reader.specs.Reading.{Goes, classes}
+use Rattle.p21_reader.specs.ValueNesting.{wanted, signs, IsFit, row_rest, EndsRow, HasRow, HasRows}
+use Rattle.p21_reader.specs.TokenReading.{Goes, classes}
 use Rattle.p21_reader.specs.Tabling.{Counts, PassesRow, PassesRows, PassesMore}
 use Rattle.p21_lexer.specs.There.{StandsThere}
 use Rattle.p21_reader.proofs.Contained.{told, told_append}

@@ -2,7 +2,7 @@
 use Rattle.std.proofs.Common.{◌≡◌, ℕ, ◌-◌, ◌<◌, ◌≤◌, inl, inr, List, [], ◌∷◌, ◌++◌, length, drop, Some, None, Result, Ok, Err, arith, refl, sym, ap, subst, ◌∙◌, append_assoc, length-append, length-drop}
 use Rattle.p21_lexer.specs.declared.token.Token.{Token}
 use Rattle.p21_lexer.specs.Cutting.{CutsFrom, StopsAt, IsFirst}
-use Rattle.p21_lexer.specs.Gaps.{Passes}
+use Rattle.p21_lexer.specs.TokenSeparators.{Passes}
 use Rattle.p21_values.specs.declared.fault.ReadFault.{ReadFault}
 use Rattle.p21_values.specs.declared.fault.ReadFault.TheVariants as faults
 use Rattle.p21_values.specs.Grammar.{Sign, T}
@@ -11,8 +11,8 @@ use Rattle.std.specs.Prelude.{IsErrAnd}
 use Rattle.p21_reader.proofs.Signs.{sign_said, sign_led}
 use Rattle.p21_reader.specs.Machine.{run, next, bind}
 use Rattle.p21_values.specs.Lexemes.{Lexeme, lexeme_of, class_of}
-use Rattle.p21_reader.specs.Reading.{Cuts, classes, Goes, Stops, Fails, StopsAfter, FailsAfter, sign_class, sign_says}
-use Rattle.p21_values.specs.Pieces.{NoToken, IsSign, kind_of}
+use Rattle.p21_reader.specs.TokenReading.{Cuts, classes, Goes, Stops, Fails, StopsAfter, FailsAfter, sign_class, sign_says}
+use Rattle.p21_values.specs.TokenPieces.{NoToken, IsSign, kind_of}
 use Rattle.p21_reader.proofs.Viable.{run_append}
 
 pub classes_append : (ls ms : List Lexeme) → classes (ls ++ ms) ≡ classes ls ++ classes ms

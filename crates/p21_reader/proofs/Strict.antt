@@ -8,7 +8,7 @@ use Rattle.std.specs.declared.cmp.Ordering.TheVariants.{Less}
 use Rattle.p21_values.specs.declared.value.Instance.{Instance}
 use Rattle.p21_values.specs.Saying.{saying}
 use Rattle.p21_values.specs.Counting.{times}
-use Rattle.p21_values.specs.Places.{Rises}
+use Rattle.p21_values.specs.InstancePlaces.{Rises}
 use Rattle.p21_reader.proofs.Doubles.{less_is, times_same, times_other, equal_or}
 
 -- Lists that strictly rise by a number have one order.

@@ -12,8 +12,8 @@ use Rattle.p21_reader.specs.declared.table.Table.{Table}
 use Rattle.p21_values.specs.Lexemes.{Lexeme, lexeme_of, class_of, Separator, Closing, Cuts}
 use Rattle.p21_values.specs.Printing.{print_all}
 use Rattle.p21_values.specs.Counting.{size}
-use Rattle.p21_reader.specs.Reading.{Fails}
-use Rattle.p21_values.specs.Pieces.{kind_of}
+use Rattle.p21_reader.specs.TokenReading.{Fails}
+use Rattle.p21_values.specs.TokenPieces.{kind_of}
 use Rattle.p21_values.specs.Grammar.{Class, Close, Sign, Value, After, Inside}
 use Rattle.p21_reader.specs.Machine.{next}
 use Rattle.p21_values.specs.Standing.{Stands, StandInside}

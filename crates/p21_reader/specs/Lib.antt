@@ -1,9 +1,9 @@
-pub mod Files
+pub mod ExchangeFiles
 pub mod Heading
 pub mod Instances
 pub mod Machine
-pub mod Passing
-pub mod Reading
+pub mod ValueNesting
+pub mod TokenReading
 pub mod Schema
 pub mod Tabling
 pub mod Uploads

@@ -3,7 +3,7 @@ use Rattle.std.specs.Char.{to_ascii_uppercase}
 use Rattle.std.specs.Str.{bytes_eq}
 use Rattle.p21_values.specs.Grammar.{Iso, Header, Data, EndSec, Semi, Word, Inside, Derives}
 use Rattle.p21_values.specs.Lexemes.{Lexeme, Opening, Closing, Ending, WordsOf, KeywordOf, classes}
-use Rattle.bim_text.specs.Texts.{text_of_spelling}
+use Rattle.bim_text.specs.TextSpellings.{text_of_spelling}
 
 -- The header of a file: its statements, and the schema that they name (ISO 10303-21, section 8).
 

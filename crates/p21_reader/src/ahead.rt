@@ -5,8 +5,8 @@ ghost use Rattle.p21_lexer.specs.declared.token.Token.{Token};
 ghost use Rattle.p21_values.specs.Grammar.{Word};
 ghost use Rattle.p21_values.specs.Lexemes.{lexeme_of, class_of, Opening, Closing, WordsOf};
 ghost use Rattle.p21_reader.specs.Heading.{mark_seen, OnlyText};
-ghost use Rattle.p21_reader.specs.Reading.{Cuts, sign_says};
-ghost use Rattle.p21_values.specs.Pieces.{IsPiece, IsSign};
+ghost use Rattle.p21_reader.specs.TokenReading.{Cuts, sign_says};
+ghost use Rattle.p21_values.specs.TokenPieces.{IsPiece, IsSign};
 
 use crate::word::{Mark, Seen, look};
 use p21_lexer::{Token, TokenKind};

@@ -2,7 +2,7 @@
 ghost use Rattle.std.specs.Prelude.{◌≡◌, List, IsSortedByKey, IfSome, IfNone, map};
 ghost use Rattle.std.specs.Ordering.{nat_cmp};
 ghost use Rattle.p21_reader.specs.Uploads.{IsLeastDouble};
-ghost use Rattle.p21_values.specs.Places.{Rises};
+ghost use Rattle.p21_values.specs.InstancePlaces.{Rises};
 ghost use Rattle.p21_values.specs.declared.value.Instance.{Instance};
 
 use p21_values::Head;

@@ -2,7 +2,7 @@
 ghost use Rattle.std.specs.Prelude.{◌≡◌, ◌≤◌, length, IfOk, IfErr, IfSome, IfNone};
 ghost use Rattle.bim_model.specs.declared.limits.TheConstants.{MOST_UPLOAD};
 ghost use Rattle.p21_lexer.specs.Cutting.{start_of};
-ghost use Rattle.p21_reader.specs.Files.{FaultAt};
+ghost use Rattle.p21_reader.specs.ExchangeFiles.{FaultAt};
 ghost use Rattle.p21_reader.specs.Uploads.{BeginsPart21, BeginsAt, TablesFile};
 
 use crate::ahead::{sign_end, word_end};

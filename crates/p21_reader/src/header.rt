@@ -1,7 +1,7 @@
 //! The header section, and the schema that it names.
 ghost use Rattle.std.specs.Prelude.{◌≡◌, ◌≤◌, length, IfOk};
 ghost use Rattle.p21_reader.specs.Heading.{ReadsData, ReadsPart, ReadsStatements, ReadsHeader};
-ghost use Rattle.p21_values.specs.Pieces.{IsPiece};
+ghost use Rattle.p21_values.specs.TokenPieces.{IsPiece};
 
 use crate::nested::pass_values;
 use crate::schema::{Schema, judge};

@@ -3,7 +3,7 @@ ghost use Rattle.std.specs.Prelude.{◌≡◌, ℕ, List, [], Some, IsSome, ◌�
 ghost use Rattle.p21_values.specs.Grammar.{Class, IsFile, IsViable, file};
 ghost use Rattle.p21_reader.specs.Machine.{run};
 ghost use Rattle.p21_values.specs.Lexemes.{Lexeme};
-ghost use Rattle.p21_reader.specs.Files.{HoldsFile};
+ghost use Rattle.p21_reader.specs.ExchangeFiles.{HoldsFile};
 ghost use Rattle.p21_reader.specs.Schema.{Statement};
 ghost use Rattle.p21_reader.specs.Uploads.{HasFault, SpellsExchange};
 ghost use Rattle.bim_model.specs.declared.upload.UploadFault.{UploadFault};

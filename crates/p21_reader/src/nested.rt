@@ -4,7 +4,7 @@ ghost use Rattle.std.specs.Prelude.{true, false};
 ghost use Rattle.p21_values.specs.Grammar.{Inside};
 ghost use Rattle.p21_reader.specs.Machine.{next};
 ghost use Rattle.p21_values.specs.Lexemes.{lexeme_of, class_of};
-ghost use Rattle.p21_values.specs.Pieces.{IsPiece};
+ghost use Rattle.p21_values.specs.TokenPieces.{IsPiece};
 ghost use Rattle.p21_reader.specs.Instances.{Passes};
 ghost use Rattle.p21_reader.specs.Heading.{sign_of, signs_of, class_seen, Follows, FollowsNot};
 

@@ -4,9 +4,9 @@ ghost use Rattle.p21_values.specs.Grammar.{Class, Value, Inside, T, Open, AnyWor
 ghost use Rattle.p21_reader.specs.Instances.{Passes};
 ghost use Rattle.p21_values.specs.declared.limits.TheConstants.{MOST_DEPTH};
 ghost use Rattle.p21_reader.specs.Machine.{step};
-ghost use Rattle.p21_values.specs.Pieces.{IsPiece, kind_of};
+ghost use Rattle.p21_values.specs.TokenPieces.{IsPiece, kind_of};
 ghost use Rattle.p21_values.specs.Lexemes.{NumberOf, single_says, Cuts};
-ghost use Rattle.p21_reader.specs.Passing.{wanted, signs, IsFit, tells, EndsRow, HasRow};
+ghost use Rattle.p21_reader.specs.ValueNesting.{wanted, signs, IsFit, tells, EndsRow, HasRow};
 ghost use Rattle.p21_reader.specs.Tabling.{Counts, PassesRow, PassesRows, PassesMore, PassesValue};
 
 use crate::word::expect;

@@ -2,7 +2,7 @@
 ghost use Rattle.std.specs.Prelude.{◌≡◌, ◌≤◌, ◌∷◌, [], ◌++◌, List, length, IsTrue, ◌↔◌, IfOk, IfErr};
 ghost use Rattle.p21_reader.specs.Schema.{Statement, IsIfc4};
 ghost use Rattle.p21_reader.specs.Heading.{SaysSchema, OnlyIfc4, IsStatementAt};
-ghost use Rattle.p21_values.specs.Pieces.{IsPiece};
+ghost use Rattle.p21_values.specs.TokenPieces.{IsPiece};
 
 use crate::ahead::only_text;
 use bim_text::text_of;

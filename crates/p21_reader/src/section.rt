@@ -1,7 +1,7 @@
 //! The data section: instances until the word that closes it.
 ghost use Rattle.std.specs.Prelude.{◌≡◌, ◌≤◌, length, IfOk};
-ghost use Rattle.p21_values.specs.Pieces.{IsPiece};
-ghost use Rattle.p21_reader.specs.Files.{ReadsClosing};
+ghost use Rattle.p21_values.specs.TokenPieces.{IsPiece};
+ghost use Rattle.p21_reader.specs.ExchangeFiles.{ReadsClosing};
 
 use crate::word::{Mark, Seen, expect, expect_word, look};
 use p21_values::{Kind, Piece, ReadFault, refused};

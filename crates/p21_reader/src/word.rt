@@ -3,10 +3,10 @@ ghost use Rattle.std.specs.Prelude.{◌≡◌, ◌<◌, ◌≤◌, length, map, 
 ghost use Rattle.std.specs.Char.{to_ascii_uppercase};
 ghost use Rattle.p21_values.specs.Lexemes.{ReferenceTo, lexeme_of, class_of, mark_of};
 ghost use Rattle.p21_lexer.specs.Cutting.{CutsFrom};
-ghost use Rattle.p21_values.specs.Pieces.{IsPiece, IsSign, NoToken};
-ghost use Rattle.p21_reader.specs.Reading.{Expects};
+ghost use Rattle.p21_values.specs.TokenPieces.{IsPiece, IsSign, NoToken};
+ghost use Rattle.p21_reader.specs.TokenReading.{Expects};
 ghost use Rattle.p21_reader.specs.Heading.{mark_seen, class_seen};
-ghost use Rattle.p21_reader.specs.Files.{ReadsWord};
+ghost use Rattle.p21_reader.specs.ExchangeFiles.{ReadsWord};
 
 use ifc_keywords::is_word;
 use p21_lexer::{Token, TokenKind, name_there, word_there};

@@ -6,14 +6,14 @@ use Rattle.p21_lexer.specs.declared.token.Token.{Token}
 use Rattle.p21_lexer.specs.declared.token.TokenKind.{TokenKind}
 use Rattle.p21_lexer.specs.declared.token.TokenKind.TheVariants as tokens
 use Rattle.p21_lexer.specs.Spelling.{Spells, is_single, value_after}
-use Rattle.p21_lexer.specs.Gaps.{is_blank, Passes, IsStop}
+use Rattle.p21_lexer.specs.TokenSeparators.{is_blank, Passes, IsStop}
 use Rattle.p21_lexer.specs.Cutting.{StopsAt, CutsFrom}
 use Rattle.p21_lexer.specs.Kinds.{kind_of as kind_by}
 use Rattle.p21_lexer.proofs.Tokens.{headed, kind_single}
 use Rattle.p21_values.specs.declared.piece.Kind.TheVariants as kinds
 use Rattle.p21_values.specs.declared.value.Value21.{Value21}
 use Rattle.p21_values.specs.Lexemes.{Lexeme, says, single_says, lexeme_of, class_of, inner}
-use Rattle.p21_values.specs.Pieces.{kind_of}
+use Rattle.p21_values.specs.TokenPieces.{kind_of}
 use Rattle.p21_values.specs.Values.{words_of, reference_of, items_of, is_absent}
 use Rattle.p21_values.specs.Standing.{Stands, Begins, StandInside, StandBehind}
 use Rattle.p21_values.proofs.Contents.{name_kind, tail_of}

@@ -15,7 +15,7 @@ use Rattle.p21_values.specs.declared.value.Value21.TheFolds.{fold_out-Value21, m
 use Rattle.p21_values.specs.Values.{number_in, words_in, letters_in, enumeration_in, reference_in, absent_in, items_in, typed_in, typed_of, number_of, words_of, enumeration_of, is_enumeration, reference_of, is_absent, items_of}
 use Rattle.p21_values.specs.Lexemes.{Lexeme, Absence, Derivation, Opening, Closing, Separator, Ending, Assigning, NumberOf, WordsOf, EnumerationOf, BitsOf, KeywordOf, ReferenceTo, lexeme_of, class_of, says, single_says, inner, Cuts}
 use Rattle.p21_values.specs.Printing.{print, print_step, print_all, joined, behind}
-use Rattle.p21_values.specs.Pieces.{NoToken, kind_of}
+use Rattle.p21_values.specs.TokenPieces.{NoToken, kind_of}
 use Rattle.p21_values.specs.Saying.{Content, Contents, Absent, Derived, Number, Words, Enumeration, Bits, Reference, Listed, Typed, nothing, and, content, contents}
 use Rattle.p21_values.specs.Standing.{Stands, Begins, StandInside, StandBehind, Closes, depth_after}
 use Rattle.p21_values.proofs.Tokens.{no_token}

@@ -4,7 +4,7 @@ use Rattle.std.specs.Coded.{le_prop}
 use Rattle.std.proofs.lemmas.List.{length-append, length-drop}
 use mathlib.Core.Logic.{∥∥₁_elim}
 use Rattle.p21_lexer.specs.declared.token.Token.{Token}
-use Rattle.p21_lexer.specs.Gaps.{Passes}
+use Rattle.p21_lexer.specs.TokenSeparators.{Passes}
 use Rattle.p21_lexer.specs.Cutting.{CutsFrom}
 use Rattle.p21_values.specs.declared.value.Value21.{Value21}
 use Rattle.p21_values.specs.Lexemes.{Lexeme, Closing, Cuts}

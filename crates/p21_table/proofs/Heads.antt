@@ -7,8 +7,8 @@ use Rattle.std.specs.List.Sorted.{IsNonDecreasingBy, IsStrictlySortedBy}
 use Rattle.std.specs.Ordering.{nat_cmp}
 use Rattle.p21_values.specs.declared.instance_head.Head.{Head}
 use Rattle.p21_values.specs.declared.value.Instance.{Instance}
-use Rattle.p21_values.specs.Looking.{look}
-use Rattle.p21_values.specs.Places.{IsPlaceOf, Rises}
+use Rattle.p21_values.specs.InstanceLookup.{look}
+use Rattle.p21_values.specs.InstancePlaces.{IsPlaceOf, Rises}
 use Rattle.p21_values.proofs.PlaceLemmas.{risen_place, rising, halved_place, halved_none, some_instance}
 
 abbrev pub SameIds : List Head → List Instance → Type 0

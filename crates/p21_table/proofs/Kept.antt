@@ -9,7 +9,7 @@ use base.Stored.{Coded-set, coded_ℕ}
 use mathlib.Core.Logic.{∥∥₁_elim, ∥∥₁_prop}
 use Rattle.p21_lexer.specs.declared.token.Token.{Token}
 use Rattle.p21_lexer.specs.Spelling.{IsWord}
-use Rattle.p21_lexer.specs.Gaps.{Passes}
+use Rattle.p21_lexer.specs.TokenSeparators.{Passes}
 use Rattle.p21_lexer.specs.Cutting.{CutsFrom}
 use Rattle.p21_values.specs.contracts.value.Value21 as row
 use Rattle.p21_values.specs.declared.instance_head.Head.{Head}
@@ -17,7 +17,7 @@ use Rattle.ifc_keywords.specs.Codes.{code_at}
 use Rattle.p21_values.specs.declared.value.Value21.{Value21}
 use Rattle.p21_values.specs.declared.value.Instance.{Instance}
 use Rattle.p21_values.specs.Lexemes.{Lexeme, Closing, Cuts}
-use Rattle.p21_values.specs.Looking.{instance_at}
+use Rattle.p21_values.specs.InstanceLookup.{instance_at}
 use Rattle.p21_values.specs.Printing.{print, print_all}
 use Rattle.p21_values.specs.Standing.{Stands, StandInside}
 use Rattle.p21_values.specs.Tables.{Tells, Holds, starts_of}

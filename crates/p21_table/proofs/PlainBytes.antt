@@ -7,7 +7,7 @@ use Rattle.p21_lexer.specs.declared.token.TokenKind.{TokenKind}
 use Rattle.p21_lexer.specs.declared.token.TokenKind.TheVariants as tokens
 use Rattle.p21_lexer.specs.Spelling.{Spells, AreAll, is_digit, is_letter, is_letter_or_digit, is_word_byte, is_hexadecimal, is_sign, is_exponent_mark, IsOptionalSign, IsFraction, IsExponent, IsSigned}
 use Rattle.p21_values.specs.Lexemes.{says, class_of, single_says}
-use Rattle.p21_values.specs.Pieces.{kind_of}
+use Rattle.p21_values.specs.TokenPieces.{kind_of}
 use Rattle.p21_values.specs.Standing.{is_plain, depth_after}
 
 -- Of one byte.

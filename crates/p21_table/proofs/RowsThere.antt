@@ -15,7 +15,7 @@ use Rattle.p21_values.specs.declared.value.Value21.TheOpen as layer
 use Rattle.p21_values.specs.declared.value.Value21.TheViews.{roll-Value21}
 use Rattle.p21_values.specs.declared.value.Value21.TheFolds.{fold-roll-Value21, map-Value21}
 use Rattle.p21_values.specs.Lexemes.{Lexeme, Opening, Closing, Separator, NumberOf, lexeme_of, class_of, single_says, Cuts}
-use Rattle.p21_values.specs.Pieces.{kind_of}
+use Rattle.p21_values.specs.TokenPieces.{kind_of}
 use Rattle.p21_values.specs.Printing.{print, print_all, print_step}
 use Rattle.p21_values.specs.Values.{items_of}
 use Rattle.p21_values.specs.Standing.{Begins, StandInside, StandBehind}

@@ -8,7 +8,7 @@ use Rattle.std.proofs.Math.Seq.{take-append_seam}
 use Rattle.bim_model.specs.Guids.{is_guid_char}
 use Rattle.p21_lexer.specs.declared.token.TokenKind.TheVariants as tokens
 use Rattle.p21_lexer.specs.Kinds.{kind_of, span}
-use Rattle.p21_lexer.specs.Scanning.{text_span}
+use Rattle.p21_lexer.specs.TokenSpans.{text_span}
 use Rattle.p21_lexer.specs.There.{StandsThere, IsValueThere}
 use Rattle.p21_lexer.proofs.RunLemmas.{behind_at}
 use Rattle.p21_lexer.proofs.Stands.{stands}

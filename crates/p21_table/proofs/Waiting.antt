@@ -7,7 +7,7 @@ use Rattle.p21_lexer.specs.declared.token.TokenKind.{TokenKind}
 use Rattle.p21_lexer.specs.declared.token.TokenKind.TheVariants as tokens
 use Rattle.p21_lexer.specs.declared.token.Token.{Token}
 use Rattle.p21_lexer.specs.Spelling.{Spells}
-use Rattle.p21_lexer.specs.Gaps.{is_blank, IsPiece, Passes, IsStop, Skips}
+use Rattle.p21_lexer.specs.TokenSeparators.{is_blank, IsPiece, Passes, IsStop, Skips}
 use Rattle.p21_lexer.specs.Cutting.{IsFirst, StopsAt, CutsFrom}
 use Rattle.p21_lexer.specs.Kinds.{kind_of as kind_by}
 use Rattle.p21_lexer.proofs.Tokens.{headed}
@@ -15,7 +15,7 @@ use Rattle.p21_values.specs.declared.fault.ReadFault.{ReadFault}
 use Rattle.p21_values.specs.declared.piece.Kind.{Kind}
 use Rattle.p21_values.specs.declared.piece.Kind.TheVariants as kinds
 use Rattle.p21_values.specs.Lexemes.{Lexeme, lexeme_of, class_of, says, single_says, Cuts}
-use Rattle.p21_values.specs.Pieces.{NoToken, IsSign, kind_of}
+use Rattle.p21_values.specs.TokenPieces.{NoToken, IsSign, kind_of}
 use Rattle.p21_values.specs.Standing.{Closes, depth_after, is_plain, Waits, Leaves}
 use Rattle.p21_values.proofs.Seen.{head_of}
 use Rattle.p21_values.proofs.Tokens.{one_token}

@@ -22,7 +22,7 @@ pub struct Exchange {
 impl Model for Exchange {
     ghost use Rattle.std.specs.Prelude.{List, ◌≤◌, length};
     ghost use Rattle.p21_values.specs.Counting.{values_of};
-    ghost use Rattle.p21_values.specs.Places.{Rises};
+    ghost use Rattle.p21_values.specs.InstancePlaces.{Rises};
     ghost use Rattle.p21_values.specs.declared.limits.TheConstants.{MOST_INSTANCES, MOST_VALUES};
     ghost use Rattle.p21_values.specs.declared.value.Instance.{Instance};
     ghost use Rattle.p21_values.specs.contracts.value.Value21 as value;
@@ -50,7 +50,7 @@ pub(crate) struct Kept<'a> {
 impl Exchange {
     ghost use Rattle.std.specs.Prelude.{◌≡◌, ◌≤◌, List, length, map};
     ghost use Rattle.p21_values.specs.Counting.{values_of};
-    ghost use Rattle.p21_values.specs.Places.{Rises};
+    ghost use Rattle.p21_values.specs.InstancePlaces.{Rises};
     ghost use Rattle.p21_values.specs.Tables.{Holds};
     ghost use Rattle.p21_values.specs.declared.limits.TheConstants.{MOST_INSTANCES, MOST_VALUES};
     ghost use Rattle.p21_values.specs.declared.value.Instance.{Instance};

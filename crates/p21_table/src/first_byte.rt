@@ -2,7 +2,7 @@
 ghost use Rattle.std.specs.Prelude.{◌≡◌, ◌≤◌, List, length, Some, None, true, IfSome, MatchOption, option_copied, is_some};
 ghost use Rattle.std.specs.List.{list_all};
 ghost use Rattle.bim_model.specs.Guids.{is_guid_char, IsGuid};
-ghost use Rattle.bim_text.specs.Texts.{is_plain};
+ghost use Rattle.bim_text.specs.TextSpellings.{is_plain};
 ghost use Rattle.p21_values.specs.declared.value.Value21.{Value21};
 ghost use Rattle.p21_values.specs.Values.{words_of, reference_of, items_of, is_absent};
 ghost use Rattle.p21_values.specs.Standing.{Stands, StandInside};

@@ -29,7 +29,7 @@ impl<'a> Model for InstanceRef<'a> {
     ghost use Rattle.p21_values.specs.declared.value.Instance.{Instance};
     ghost use Rattle.p21_values.specs.contracts.value.Value21 as row;
     ghost use Rattle.std.specs.Coded.{codes};
-    ghost use Rattle.p21_values.specs.Looking.{instance_at};
+    ghost use Rattle.p21_values.specs.InstanceLookup.{instance_at};
 
     ghost coded = { Prim.hlevel (codes, row.the_row.coded) };
 

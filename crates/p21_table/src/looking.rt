@@ -8,8 +8,8 @@ impl Exchange {
     ghost use Rattle.std.specs.Prelude.{◌≡◌, ◌<◌, ◌≤◌, None, Some, MatchOption, length, option_and_then};
     ghost use Rattle.std.specs.List.{slice_get};
     ghost use Rattle.p21_values.specs.Values.{reference_of};
-    ghost use Rattle.p21_values.specs.Looking.{look};
-    ghost use Rattle.p21_values.specs.Places.{IsPlaceOf};
+    ghost use Rattle.p21_values.specs.InstanceLookup.{look};
+    ghost use Rattle.p21_values.specs.InstancePlaces.{IsPlaceOf};
     ghost use Rattle.p21_values.specs.Attributes.{target_at, value_at, referred_at};
 
     /// The instance at a place.

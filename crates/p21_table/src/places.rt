@@ -3,8 +3,8 @@ ghost use Rattle.std.specs.Prelude.{◌≡◌, ◌+◌, ◌*◌, ◌^◌, ◌<�
 ghost use Rattle.std.specs.List.{HoldsAt};
 ghost use Rattle.std.specs.Bool.{OnTrue};
 ghost use Rattle.p21_values.specs.declared.instance_head.Head.{Head};
-ghost use Rattle.p21_values.specs.Looking.{look};
-ghost use Rattle.p21_values.specs.Places.{IsPlaceOf};
+ghost use Rattle.p21_values.specs.InstanceLookup.{look};
+ghost use Rattle.p21_values.specs.InstancePlaces.{IsPlaceOf};
 
 use crate::exchange::Exchange;
 use p21_values::Head;

@@ -5,7 +5,7 @@ ghost use Rattle.std.specs.Char.{to_ascii_uppercase};
 ghost use Rattle.p21_lexer.specs.Spelling.{IsWord, value_after};
 ghost use Rattle.p21_lexer.specs.declared.limits.TheConstants.{GREATEST_NAME};
 ghost use Rattle.p21_values.specs.Lexemes.{inner as inner_of, lexeme_of, class_of, single_says, ReferenceTo, KeywordOf};
-ghost use Rattle.p21_values.specs.Pieces.{IsPiece, kind_of};
+ghost use Rattle.p21_values.specs.TokenPieces.{IsPiece, kind_of};
 
 use bim_model::Text;
 use p21_values::{Kind, Piece};

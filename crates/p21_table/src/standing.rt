@@ -2,7 +2,7 @@
 ghost use Rattle.std.specs.Prelude.{◌≡◌, ◌<◌, ◌≤◌, ◌+◌, ◌-◌, ◌^◌, ◌∷◌, ◌==◌, ◌||◌, [], ℕ, List, length, slice_index, true, Some, None, Ok, IfSome, MatchOption, option_copied};
 ghost use Rattle.p21_lexer.specs.Cutting.{CutsFrom};
 ghost use Rattle.p21_values.specs.declared.value.Value21.{Value21};
-ghost use Rattle.p21_values.specs.Pieces.{IsPiece};
+ghost use Rattle.p21_values.specs.TokenPieces.{IsPiece};
 ghost use Rattle.p21_values.specs.Values.{number_of, words_of, enumeration_of, reference_of, items_of, typed_of, is_absent};
 ghost use Rattle.p21_values.specs.Lexemes.{Lexeme, Cuts};
 ghost use Rattle.p21_values.specs.Standing.{Stands, Begins, StandInside, StandBehind, Closes, Waits, Leaves};

@@ -58,7 +58,7 @@ impl<'a> ValueRef<'a> {
     ghost use Rattle.std.specs.Prelude.{◌≡◌, ◌≤◌, length, option_copied, Some, IfSome, is_some, true};
     ghost use Rattle.std.specs.List.{list_all};
     ghost use Rattle.bim_model.specs.Guids.{IsGuid};
-    ghost use Rattle.bim_text.specs.Texts.{is_plain};
+    ghost use Rattle.bim_text.specs.TextSpellings.{is_plain};
     ghost use Rattle.p21_values.specs.declared.value.Value21.{Value21};
     ghost use Rattle.p21_values.specs.Standing.{Stands};
     ghost use Rattle.p21_table.specs.Stood.{Stood};

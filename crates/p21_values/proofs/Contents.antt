@@ -10,7 +10,7 @@ use Rattle.p21_lexer.specs.Spelling.{Spells, IsWord, value_after, is_letter, is_
 use Rattle.p21_lexer.specs.declared.limits.TheConstants.{GREATEST_NAME}
 use Rattle.p21_values.specs.declared.piece.Kind.TheVariants as kinds
 use Rattle.p21_values.specs.Lexemes.{KeywordOf, says, class_of, single_says}
-use Rattle.p21_values.specs.Pieces.{kind_of}
+use Rattle.p21_values.specs.TokenPieces.{kind_of}
 use Rattle.p21_values.proofs.Seen.{head_of}
 
 -- Numbers.

@@ -8,9 +8,9 @@ use Rattle.std.specs.List.{HoldsAt}
 use Rattle.std.specs.List.Sorted.{IsNonDecreasingBy}
 use Rattle.std.proofs.lemmas.Map.Keys.{non_decreasing_from_sorted, IsStrictlyIncreasing-from_sorted}
 use Rattle.p21_values.specs.declared.value.Instance.{Instance}
-use Rattle.p21_values.specs.Places.{Rises}
-use Rattle.p21_values.specs.Looking.{look}
-use Rattle.p21_values.specs.Places.{IsPlaceOf}
+use Rattle.p21_values.specs.InstancePlaces.{Rises}
+use Rattle.p21_values.specs.InstanceLookup.{look}
+use Rattle.p21_values.specs.InstancePlaces.{IsPlaceOf}
 
 pub some_instance : Instance
 some_instance = record { id = 0; keyword = None; values = [] }

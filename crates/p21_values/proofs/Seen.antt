@@ -4,7 +4,7 @@ use Rattle.p21_lexer.specs.declared.token.TokenKind.{TokenKind}
 use Rattle.p21_lexer.specs.declared.token.TokenKind.TheVariants as tokens
 use Rattle.p21_values.specs.declared.piece.Kind.TheVariants as kinds
 use Rattle.p21_values.specs.Lexemes.{alone, says, class_of, single_says}
-use Rattle.p21_values.specs.Pieces.{kind_of}
+use Rattle.p21_values.specs.TokenPieces.{kind_of}
 
 pub head_of : (bs : List ℕ) (a b d : ℕ) → a < b → b ≤ length bs → slice_range bs a b ≡ get_or bs a d ∷ take (b - suc a) (drop (suc a) bs)
 head_of bs a b d h k =

@@ -6,13 +6,13 @@ use Rattle.std.proofs.lemmas.List.{length-take-le}
 use Rattle.p21_lexer.specs.declared.token.TokenKind.{TokenKind}
 use Rattle.p21_lexer.specs.declared.token.TokenKind.TheVariants as tokens
 use Rattle.p21_lexer.specs.Spelling.{Spells, IsSingle, is_single}
-use Rattle.p21_lexer.specs.Gaps.{is_blank, IsStop}
+use Rattle.p21_lexer.specs.TokenSeparators.{is_blank, IsStop}
 use Rattle.p21_lexer.specs.Cutting.{IsFirst, CutsFrom}
 use Rattle.p21_lexer.specs.Kinds.{kind_of as kind_by}
 use Rattle.p21_lexer.proofs.Tokens.{headed, kind_single}
 use Rattle.p21_values.specs.declared.piece.Kind.{Kind}
 use Rattle.p21_values.specs.Lexemes.{class_of, single_says, lexeme_of}
-use Rattle.p21_values.specs.Pieces.{IsSign, kind_of}
+use Rattle.p21_values.specs.TokenPieces.{IsSign, kind_of}
 use Rattle.p21_values.proofs.Seen.{alone_says}
 
 sign_byte : (b : ℕ) → IsSign (kind_of (class_of (single_says b))) → is_single b ≡ true

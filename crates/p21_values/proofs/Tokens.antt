@@ -7,7 +7,7 @@ use Rattle.p21_lexer.proofs.OneCut.{one_answer}
 use Rattle.p21_lexer.specs.Cutting.{CutsFrom}
 use Rattle.p21_values.specs.declared.fault.ReadFault.{ReadFault}
 use Rattle.p21_values.specs.declared.fault.ReadFault.TheVariants as faults
-use Rattle.p21_values.specs.Pieces.{NoToken}
+use Rattle.p21_values.specs.TokenPieces.{NoToken}
 
 token_or : Token → Result (Option Token) LexFault → Token
 token_or d (Ok (Some t)) = t

@@ -2,9 +2,9 @@ pub mod Attributes
 pub mod Counting
 pub mod Grammar
 pub mod Lexemes
-pub mod Looking
-pub mod Pieces
-pub mod Places
+pub mod InstanceLookup
+pub mod TokenPieces
+pub mod InstancePlaces
 pub mod Printing
 pub mod Saying
 pub mod Standing

@@ -6,7 +6,7 @@ use Rattle.p21_values.specs.declared.value.Value21.{Value21}
 use Rattle.p21_values.specs.declared.piece.Kind.{Kind}
 use Rattle.p21_values.specs.declared.piece.Kind.TheVariants as kinds
 use Rattle.p21_values.specs.Lexemes.{Lexeme, Closing, lexeme_of, class_of, Cuts}
-use Rattle.p21_values.specs.Pieces.{kind_of}
+use Rattle.p21_values.specs.TokenPieces.{kind_of}
 use Rattle.p21_values.specs.Printing.{print, print_all, behind}
 
 -- a value stands there: the tokens that spell it are cut from this place on

@@ -66,11 +66,12 @@ items_of v = items_in (out-Value21 v)
 abbrev pub typed_of : Value21 → Option Value21
 typed_of v = typed_in (out-Value21 v)
 
--- the number that a value is, or that a typed value holds
+-- the number that the value held is; where none is held, the number that the value itself is
 abbrev pub measure_in : Option Value21 → Value21 → Option (List ℕ)
 measure_in None v = number_of v
 measure_in (Some held) v = number_of held
 
+-- the number that a value is, or that a typed value holds
 abbrev pub measure_of : Value21 → Option (List ℕ)
 measure_of v = measure_in (typed_of v) v
 

@@ -37,7 +37,7 @@ impl<T: Drop> From<AllocFailed<T>> for ReadFault {
 
 impl From<ReadFault> for BuildError {
     ghost use Rattle.std.specs.Prelude.{◌≡◌};
-    ghost use Rattle.p21_values.specs.Pieces.{error_of};
+    ghost use Rattle.p21_values.specs.TokenPieces.{error_of};
 
     ghost from_gives = { λ fault error. error ≡ error_of fault };
 

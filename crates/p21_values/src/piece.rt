@@ -2,7 +2,7 @@
 ghost use Rattle.std.specs.Prelude.{◌≡◌, ◌<◌, ◌≤◌, length, Option, Some, Result, Ok, IfOk, IfErr, IfSome, slice_index, slice_range};
 ghost use Rattle.p21_lexer.specs.Cutting.{CutsFrom};
 ghost use Rattle.p21_values.specs.Lexemes.{lexeme_of, class_of, single_says};
-ghost use Rattle.p21_values.specs.Pieces.{IsPiece, NoToken, IsSign, kind_of};
+ghost use Rattle.p21_values.specs.TokenPieces.{IsPiece, NoToken, IsSign, kind_of};
 
 use crate::fault::ReadFault;
 use p21_lexer::{LexFault, Token, TokenKind, cut};

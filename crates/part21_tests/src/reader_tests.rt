@@ -462,6 +462,39 @@ fn assert_lists(rt: &impl Abort, instance: &InstanceRef<'_>) -> Result<(), Fail>
     Ok(())
 }
 
+/// The value behind `#7`'s keyword, and its numbers, of which none stands behind a keyword.
+fn assert_typed(rt: &impl Abort, instance: &InstanceRef<'_>) -> Result<(), Fail> {
+    let labelled = instance.attribute(9).ok_or("missing")?;
+    let held = labelled.typed().ok_or("not typed")?;
+    assert_eq!(rt; held.words(), Some(&b"x"[..]));
+    assert!(rt; held.typed().is_none());
+    assert!(rt; labelled.measure().is_none());
+    let number = instance.attribute(2).ok_or("missing")?;
+    assert!(rt; number.typed().is_none());
+    assert_eq!(rt; number.measure(), Some(&b"-1.E5"[..]));
+    assert!(rt; instance.attribute(8).ok_or("missing")?.measure().is_none());
+    Ok(())
+}
+
+/// A number behind a keyword, one behind two, and one in a list behind a keyword.
+const MEASURES: &[u8] = b"#1=A(IfcLengthMeasure /*mm*/ ( 25.4 ),B(C(1.)),B((1.)));";
+
+#[test]
+fn numbers_behind_keywords(rt: HostRuntime) -> Result<(), Fail> {
+    let bytes = joined(rt.alloc(), [HEAD, MEASURES, TAIL])?;
+    let exchange = read(rt.alloc(), bytes.as_slice()).ok().ok_or("refused")?;
+    let instance = exchange.look(1).ok_or("missing")?;
+    let length = instance.attribute(0).ok_or("missing")?;
+    assert_eq!(rt; length.measure(), Some(&b"25.4"[..]));
+    assert!(rt; length.number().is_none());
+    let twice = instance.attribute(1).ok_or("missing")?;
+    assert!(rt; twice.measure().is_none());
+    let inner = twice.typed().ok_or("not typed")?;
+    assert_eq!(rt; inner.measure(), Some(&b"1."[..]));
+    assert!(rt; instance.attribute(2).ok_or("missing")?.measure().is_none());
+    Ok(())
+}
+
 #[test]
 fn values_where_they_stand(rt: HostRuntime) -> Result<(), Fail> {
     let bytes = joined(rt.alloc(), [HEAD, DATA, TAIL])?;
@@ -475,6 +508,7 @@ fn values_where_they_stand(rt: HostRuntime) -> Result<(), Fail> {
     assert!(rt; instance.keyword().ok_or("complex")?.is("B"));
     assert!(rt; exchange.instance(0).keyword().is_none());
     assert_lists(&rt, &instance)?;
+    assert_typed(&rt, &instance)?;
     for row in VALUES {
         let value = instance.attribute(row.at).ok_or("missing")?;
         let (kind, spelling) = lent(&value);

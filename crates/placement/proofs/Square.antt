@@ -3,7 +3,7 @@ use Rattle.std.proofs.Common.{◌≡◌, ◌==◌, ◌||◌, ℕ, ℤ, pos, negs
 use Rattle.std.specs.List.{slice_get}
 use Rattle.std.specs.Ordering.{is_lt}
 use Rattle.bim_text.specs.declared.decimal.Decimal.{Decimal}
-use Rattle.bim_text.specs.Values.{Scaled, signed, raised, size_order}
+use Rattle.bim_text.specs.ScaledNumbers.{Scaled, signed, raised, size_order}
 use Rattle.bim_text.specs.Decimals.{Reads, value_of}
 use Rattle.bim_text.proofs.Unique.{one_decimal}
 use Rattle.p21_values.specs.declared.value.Value21.{Value21}

@@ -5,8 +5,8 @@ use Rattle.std.proofs.lemmas.List.{get_or-set_same, get_or-set_other, get_or_def
 use Rattle.std.proofs.lemmas.List.Sums.{sum_by-set}
 use Rattle.std.proofs.lemmas.Bool.{cases_lt}
 use Rattle.p21_values.specs.declared.value.Instance.{Instance}
-use Rattle.p21_values.specs.Looking.{look}
-use Rattle.p21_values.specs.Places.{IsPlaceOf}
+use Rattle.p21_values.specs.InstanceLookup.{look}
+use Rattle.p21_values.specs.InstancePlaces.{IsPlaceOf}
 use Rattle.p21_values.proofs.PlaceLemmas.{some_instance}
 use Rattle.placement.specs.Chains.{parent_in, parent_of, Ends, here, above, StandsIn, ParentsFirst}
 use Rattle.placement.specs.Walks.{rank_at, is_new, Ranked, Climbs, Climbed, Outcome}

@@ -7,7 +7,7 @@ use Rattle.bim_model.specs.declared.upload.UploadFault.TheVariants as faults
 use Rattle.p21_values.specs.declared.value.Value21.{Value21}
 use Rattle.p21_values.specs.declared.value.Instance.{Instance}
 use Rattle.p21_values.specs.Values.{reference_of, is_absent}
-use Rattle.p21_values.specs.Looking.{look}
+use Rattle.p21_values.specs.InstanceLookup.{look}
 
 -- what a value names, or that it is absent
 abbrev pub named_by : Value21 → Option (Option ℕ)

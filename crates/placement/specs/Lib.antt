@@ -2,6 +2,6 @@ pub mod Frames
 pub mod Directions
 pub mod Chains
 pub mod Placed
-pub mod Seen
+pub mod SpelledTriples
 pub mod Walks
 pub mod Operators

@@ -6,7 +6,7 @@ use Rattle.bim_model.specs.declared.upload.Mode.{Mode}
 use Rattle.p21_values.specs.declared.value.Value21.{Value21}
 use Rattle.p21_values.specs.declared.value.Instance.{Instance}
 use Rattle.p21_values.specs.Attributes.{value_at, referred_at}
-use Rattle.p21_values.specs.Looking.{look}
+use Rattle.p21_values.specs.InstanceLookup.{look}
 use Rattle.ifc_units.specs.declared.scale.Scale.{Scale}
 use Rattle.ifc_units.specs.Lengths.{IsPoint}
 use Rattle.placement.specs.declared.axis.Axis.{Axis}

@@ -1,7 +1,7 @@
 -- What is known while chains are walked. No public contract cites it.
 use Rattle.std.specs.Prelude.{◌≡◌, ℕ, ◌+◌, ◌<◌, ◌≤◌, ◌⊎◌, Bool, true, false, List, length, Option, Some, None, Contains, sum_by, slice_index, slice_index_or}
 use Rattle.p21_values.specs.declared.value.Instance.{Instance}
-use Rattle.p21_values.specs.Places.{IsPlaceOf}
+use Rattle.p21_values.specs.InstancePlaces.{IsPlaceOf}
 use Rattle.placement.specs.declared.walk.Standing.{Standing}
 use Rattle.placement.specs.declared.walk.Walk.{Walk}
 use Rattle.placement.specs.Chains.{parent_of, Ends, ParentsFirst, Reached}

@@ -2,7 +2,7 @@
 use Rattle.std.proofs.Common.{◌≡◌, ℕ, ◌+◌, ◌≤◌, List, [], ◌∷◌, ◌++◌, length-append, Option, Some, None, IsSome, refl, sym, ◌∙◌, ap, subst, arith, append_assoc, append-nil, Bool, true, false, ◌||◌}
 use Rattle.std.proofs.lemmas.List.Folds.{list_any-append}
 use Rattle.check_workers.proofs.Fronts.{front_of, seen_twice}
-use Rattle.bim_net.specs.Seen.{EndedLink, DoorSeen}
+use Rattle.bim_net.specs.ConnectionViews.{EndedLink, DoorSeen}
 use Rattle.bim_net.specs.Doors.{GrowsBy}
 use Rattle.book_turn.specs.Entries.{AllBefore, AllAfter}
 use Rattle.book_history.specs.declared.changes.Entry.{Entry}

@@ -1,14 +1,14 @@
 -- What is left when all passes were joined into one and that has worked.
 use Rattle.std.proofs.Common.{◌≡◌, ℕ, ◌+◌, List, ◌++◌, Bool, map, All, sym, subst}
-use Rattle.bim_net.specs.Seen.{DoorSeen}
-use Rattle.book_turn.specs.Numbers.{numbers_from}
+use Rattle.bim_net.specs.ConnectionViews.{DoorSeen}
+use Rattle.book_turn.specs.NumberLists.{numbers_from}
 use Rattle.book_turn.specs.Entries.{AllBefore}
 use Rattle.book_turn.specs.Passes.{TurnState}
 use Rattle.book_history.specs.declared.limits.Settings.{Settings}
 use Rattle.book_history.specs.declared.changes.Entry.{Entry}
 use Rattle.book_passes.specs.Lessons.{BookPass, caller_of}
 use Rattle.check_workers.specs.declared.workers.Lack.{Lack}
-use Rattle.check_workers.specs.Working.{Teaches}
+use Rattle.check_workers.specs.WorkerTurns.{Teaches}
 use Rattle.check_workers.specs.Joins.{ExtendsByWork, HasEach, AreOfLanes, pass_of}
 use Rattle.check_workers.proofs.Joins.{taught_work}
 use Rattle.serve_lanes.specs.Histories.{Service, LanesJoined, DoorServed}

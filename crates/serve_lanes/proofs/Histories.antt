@@ -1,9 +1,9 @@
 -- Doors whose passes were joined, and the one history in which their connections stand.
 use Rattle.std.proofs.Common.{◌≡◌, ◌≢◌, ◌≤◌, ℕ, ◌+◌, max, List, [], ◌∷◌, ◌++◌, length, Bool, true, false, IsSome, IfSome, All, refl, sym, ◌∙◌, ap, subst, arith}
 use Rattle.std.proofs.lemmas.List.Elements.{All-weaker}
-use Rattle.bim_net.specs.Seen.{EndedLink, DoorSeen, IsNew, told}
+use Rattle.bim_net.specs.ConnectionViews.{EndedLink, DoorSeen, IsNew, told}
 use Rattle.bim_net.specs.Doors.{GrowsBy}
-use Rattle.book_turn.specs.Numbers.{has}
+use Rattle.book_turn.specs.NumberLists.{has}
 use Rattle.book_turn.specs.Entries.{AllBefore, calls_by}
 use Rattle.book_turn.specs.Passes.{TurnState, Joined}
 use Rattle.book_turn.proofs.Prefixes.{own_all}

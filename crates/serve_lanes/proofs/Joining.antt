@@ -6,18 +6,18 @@ use Rattle.std.proofs.lemmas.List.{map-append, length-map}
 use Rattle.std.proofs.lemmas.List.Folds.{list_any-append}
 use Rattle.std.proofs.lemmas.Bool.{eqb-true, lt-ltb}
 use Rattle.std.proofs.lemmas.List.Elements.{All-nil, All-cons, All-push, All-weaker}
-use Rattle.bim_io.specs.Seen.{ClockSeen}
+use Rattle.bim_io.specs.StreamViews.{ClockSeen}
 use Rattle.bim_io.specs.Causes.{Rose}
-use Rattle.bim_net.specs.Seen.{EndedLink, DoorSeen, IsNew, told}
+use Rattle.bim_net.specs.ConnectionViews.{EndedLink, DoorSeen, IsNew, told}
 use Rattle.bim_net.specs.Doors.{GrowsBy}
 use Rattle.bim_net.specs.Hosts.{some_failed}
-use Rattle.book_turn.specs.Numbers.{has, numbers_from}
+use Rattle.book_turn.specs.NumberLists.{has, numbers_from}
 use Rattle.book_turn.specs.Entries.{AllBefore, calls_by}
 use Rattle.book_turn.specs.Passes.{TurnState, BelongsTo, IsSingle, Joined}
 use Rattle.book_history.specs.declared.limits.Settings.{Settings}
 use Rattle.book_history.specs.declared.changes.Entry.{Entry}
 use Rattle.book_passes.specs.Lessons.{BookPass, caller_of, own_of, turn_of, stamp_of}
-use Rattle.check_workers.specs.Working.{IsDone}
+use Rattle.check_workers.specs.WorkerTurns.{IsDone}
 use Rattle.check_workers.specs.declared.workers.Lack.{Lack}
 use Rattle.serve_lanes.specs.declared.lane.LaneEnd.{LaneEnd}
 use Rattle.serve_lanes.specs.declared.lane.LaneEnd.TheVariants.{Closed, Full, Failed}

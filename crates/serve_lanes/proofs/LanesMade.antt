@@ -1,7 +1,7 @@
 -- Lanes that are made of new passes.
 use Rattle.std.proofs.Common.{◌≡◌, ℕ, suc, ◌+◌, List, [], ◌∷◌, ◌++◌, length, length-append, sym, ◌∙◌, ap, subst, arith}
-use Rattle.bim_io.specs.Seen.{ClockSeen}
-use Rattle.bim_net.specs.Seen.{DoorSeen, IsNew}
+use Rattle.bim_io.specs.StreamViews.{ClockSeen}
+use Rattle.bim_net.specs.ConnectionViews.{DoorSeen, IsNew}
 use Rattle.book_turn.specs.Passes.{TurnState, new_pass, new_passes}
 use Rattle.book_history.specs.declared.limits.Settings.{Settings}
 use Rattle.book_history.specs.declared.changes.Entry.{Entry}

@@ -1,8 +1,8 @@
 -- One connection that was served, and how its door and what its pass has seen grow.
 use Rattle.std.proofs.Common.{◌≡◌, ℕ, ◌+◌, ◌≤◌, List, [], ◌∷◌, ◌++◌, length, Option, Some, None, IsSome, IfSome, refl, sym, ◌∙◌, ap, subst, length-append, arith, Bool, true, false, ◌||◌}
-use Rattle.bim_io.specs.Seen.{ClockSeen, outside}
+use Rattle.bim_io.specs.StreamViews.{ClockSeen, outside}
 use Rattle.bim_net.specs.declared.ends.LinkEnd.{LinkEnd}
-use Rattle.bim_net.specs.Seen.{LinkSeen, EndedLink, DoorSeen, IsFresh}
+use Rattle.bim_net.specs.ConnectionViews.{LinkSeen, EndedLink, DoorSeen, IsFresh}
 use Rattle.bim_net.specs.Doors.{GrowsBy, HasOut, TakesBack}
 use Rattle.book_turn.specs.Entries.{AllBefore, AllAfter}
 use Rattle.book_history.specs.declared.limits.Settings.{Settings}
@@ -10,7 +10,7 @@ use Rattle.book_history.specs.declared.changes.Entry.{Entry}
 use Rattle.book_passes.specs.Lessons.{CallerSeen, turn_of}
 use Rattle.bim_session.specs.declared.end.SessionEnd.{SessionEnd}
 use Rattle.link_session.specs.Callers.{GoesByPass}
-use Rattle.link_session.specs.Serving.{Serves}
+use Rattle.link_session.specs.CallerSessions.{Serves}
 use Rattle.check_workers.specs.declared.workers.Lack.{Lack}
 use Rattle.serve_lanes.specs.Lanes.{ServedLink, LaneServed, NotesEnd, IsBalanced, kind_of, end_turn, is_memory, is_spent}
 use Rattle.serve_lanes.proofs.Chains.{Grew, grows_by_none}

@@ -1,11 +1,11 @@
 -- Many lanes over one book, and the one history in which all their connections stand.
 use Rattle.std.specs.Prelude.{◌≡◌, ◌≢◌, ◌≤◌, ◌<◌, ◌⊎◌, ℕ, ◌+◌, List, [], ◌∷◌, map, length, Bool, true, false, Option, None, Some, IsSome, IfSome, All}
 use Rattle.std.specs.List.{list_any}
-use Rattle.bim_io.specs.Seen.{ClockSeen}
-use Rattle.bim_net.specs.Seen.{EndedLink, DoorSeen, IsNew, told}
+use Rattle.bim_io.specs.StreamViews.{ClockSeen}
+use Rattle.bim_net.specs.ConnectionViews.{EndedLink, DoorSeen, IsNew, told}
 use Rattle.bim_net.specs.Doors.{GrowsBy}
 use Rattle.bim_net.specs.Hosts.{some_failed}
-use Rattle.book_turn.specs.Numbers.{has}
+use Rattle.book_turn.specs.NumberLists.{has}
 use Rattle.book_turn.specs.Entries.{AllBefore, OwnUpTo}
 use Rattle.book_turn.specs.Passes.{TurnState, BelongsTo, IsSingle}
 use Rattle.book_history.specs.declared.limits.Settings.{Settings}

@@ -1,9 +1,9 @@
 -- The sessions of one lane, one after another, and what they are in one history.
 use Rattle.std.specs.Prelude.{◌≡◌, ◌≤◌, ℕ, ◌+◌, List, [], ◌∷◌, length, Bool, true, false, ◌||◌, Option, Some, IfSome, IsSome}
 use Rattle.std.specs.List.{list_any}
-use Rattle.bim_io.specs.Seen.{ClockSeen, outside}
+use Rattle.bim_io.specs.StreamViews.{ClockSeen, outside}
 use Rattle.bim_net.specs.declared.ends.EndKind.{EndKind}
-use Rattle.bim_net.specs.Seen.{LinkSeen, EndedLink, DoorSeen, IsFresh}
+use Rattle.bim_net.specs.ConnectionViews.{LinkSeen, EndedLink, DoorSeen, IsFresh}
 use Rattle.bim_net.specs.Doors.{GrowsBy}
 use Rattle.book_turn.specs.Entries.{AllBefore}
 use Rattle.book_history.specs.declared.limits.Settings.{Settings}
@@ -11,7 +11,7 @@ use Rattle.book_history.specs.declared.changes.Entry.{Entry}
 use Rattle.book_passes.specs.Lessons.{CallerSeen, turn_of}
 use Rattle.bim_session.specs.declared.end.SessionEnd.{SessionEnd}
 use Rattle.link_session.specs.Callers.{GoesByPass}
-use Rattle.link_session.specs.Serving.{Serves}
+use Rattle.link_session.specs.CallerSessions.{Serves}
 use Rattle.check_workers.specs.declared.workers.Lack.{Lack}
 use Rattle.check_workers.specs.Joins.{seen_at}
 use Rattle.bim_net.specs.declared.ends.EndKind.TheVariants as kind

@@ -1,6 +1,6 @@
 //! Lanes in threads of their own, over one book.
 ghost use Rattle.std.specs.Prelude.{◌≡◌, ◌⊎◌, ◌+◌, ◌≢◌, ◌||◌, ◌++◌, ◌≤◌, ◌<◌, [], ◌∷◌, true, IsSome, vec_len, vec_capacity, map, All, IfOk};
-ghost use Rattle.book_turn.specs.Numbers.{numbers_from};
+ghost use Rattle.book_turn.specs.NumberLists.{numbers_from};
 ghost use Rattle.book_turn.specs.Passes.{new_passes};
 ghost use Rattle.bim_net.specs.Hosts.{AreNew, some_failed};
 ghost use Rattle.book_history.specs.History.{left_all};

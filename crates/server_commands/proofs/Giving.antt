@@ -4,7 +4,7 @@ use Rattle.std.specs.List.{flat_map, sum_by}
 use Rattle.std.proofs.lemmas.List.{length-map}
 use Rattle.std.proofs.lemmas.List.Sums.{sum_by-cons}
 use Rattle.bucket_grid.specs.Cells.{IsBucket}
-use Rattle.bucket_check.specs.Sets.{SetValue}
+use Rattle.bucket_check.specs.ClashSets.{SetValue}
 use Rattle.book_history.specs.declared.limits.Settings.{Settings}
 use Rattle.book_history.specs.declared.changes.Entry.{Entry}
 use Rattle.book_history.specs.declared.replies.BookReply.{BookReply}
@@ -21,7 +21,7 @@ use Rattle.book_history.proofs.Legality.{given_later}
 use Rattle.bcf_http.specs.Asked.{BringsNone}
 use Rattle.bim_session.specs.Works.{IsFoundFor}
 use Rattle.server_commands.specs.Turns.{ServerState, Calls, with_turn, stamp_of, left_of}
-use Rattle.server_commands.specs.Working.{GivesOut}
+use Rattle.server_commands.specs.BucketWork.{GivesOut}
 
 -- a call that brings no set may be made at every history
 pub legal_of : (settings : Settings) (h : List Entry) (call : BookRequest) → BringsNone call → IsLegal settings h call

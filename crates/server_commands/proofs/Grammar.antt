@@ -3,9 +3,9 @@ use Rattle.std.proofs.Common.{◌≡◌, ◌∙◌, ℕ, List, Option, codes, re
 use Rattle.clap.specs.Words.{first_of, first_value, rows_of}
 use Rattle.clap.specs.declared.parser.matches.Found.{Found}
 use Rattle.clap.proofs.WalkLemmas.{first_value-rows}
-use Rattle.command_words.specs.Words.{IsPlainCommand}
+use Rattle.command_words.specs.CommandOptions.{IsPlainCommand}
 use Rattle.server_commands.specs.declared.replay_words.Time.{Time}
-use Rattle.server_commands.specs.Words.{all_said, buckets_said, projects_said, replay_command, replay_said, time_said}
+use Rattle.server_commands.specs.ReplayWords.{all_said, buckets_said, projects_said, replay_command, replay_said, time_said}
 
 -- `replay` is a command whose parse is known
 pub replay_is_plain : IsPlainCommand replay_command

@@ -11,14 +11,14 @@ use Rattle.book_history.specs.Requests.{reply_of, added_by}
 use Rattle.book_history.specs.Runs.{Step, IsRun}
 use Rattle.book_history.proofs.Histories.{AreAbove, one_none}
 use Rattle.book_passes.specs.Lessons.{CallerSeen, TakesTurn, stamp_in, turn_of}
-use Rattle.book_passes.specs.Laws.{TakesCall}
+use Rattle.book_passes.specs.LessonLaws.{TakesCall}
 use Rattle.book_passes.proofs.Learning.{added_all, learns_trans}
 use Rattle.bim_session.specs.Works.{Standing, Works, WorksShort, Gives, IsEnough, left_behind, last_turn}
 use Rattle.bim_session.specs.Talking.{BookReceipt}
 use Rattle.bim_session.proofs.Sessions.{last_turn-append}
 use Rattle.link_session.specs.Callers.{CallerLaws, WorksBehind, start_of}
 use Rattle.server_commands.specs.Turns.{ServerState, Calls, with_turn, stamp_of, left_of}
-use Rattle.server_commands.specs.Working.{WorksAll, WorksSome}
+use Rattle.server_commands.specs.BucketWork.{WorksAll, WorksSome}
 use Rattle.server_commands.specs.OneActor.{seen_alone, IsSettled, GoesAlone}
 use Rattle.server_commands.proofs.Worked.{Extends, step_of, extends_none, extends_one, extends_on, times_steps, times_extends, times_turns, at_server, on_here, on_extended, left_here, part_steps, part_extends, part_given, left_before}
 

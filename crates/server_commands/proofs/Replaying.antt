@@ -1,13 +1,13 @@
 -- A session by a caller alone over a new book is a run with one actor.
 use Rattle.std.proofs.Common.{◌≡◌, ℕ, ◌+◌, [], length, Option, refl, sym, subst, arith}
-use Rattle.bim_io.specs.Seen.{Outside, EndsEmpty}
+use Rattle.bim_io.specs.StreamViews.{Outside, EndsEmpty}
 use Rattle.book_history.specs.declared.limits.Settings.{Settings}
 use Rattle.book_history.proofs.Histories.{one_none, none_before}
 use Rattle.bim_session.specs.declared.end.SessionEnd.{SessionEnd}
 use Rattle.bim_session.specs.declared.end.SessionEnd.TheVariants.{Memory}
 use Rattle.bim_session.specs.Session.{Answered, Ends, behind, is_closed}
 use Rattle.bim_session.specs.Replay.{Replays, beginning}
-use Rattle.link_session.specs.Serving.{Serves}
+use Rattle.link_session.specs.CallerSessions.{Serves}
 use Rattle.link_session.proofs.SoFar.{service_of}
 use Rattle.link_session.proofs.Ending.{nothing_done}
 use Rattle.server_commands.specs.Turns.{ServerState}

@@ -6,12 +6,12 @@ use Rattle.clap.specs.Words.{App, first_of, first_value, found_of, rows_of}
 use Rattle.clap.specs.declared.parser.matches.ArgMatches.{ArgMatches}
 use Rattle.clap.specs.declared.parser.matches.Found.{Found}
 use Rattle.clap.proofs.WalkLemmas.{first_value-rows}
-use Rattle.command_words.specs.Words.{IsParse, IsPlainCommand}
+use Rattle.command_words.specs.CommandOptions.{IsParse, IsPlainCommand}
 use Rattle.command_words.proofs.Grammar.{words_said}
 use Rattle.server_commands.specs.declared.serve_words.TheConstants.{MOST_LANES, MOST_WORKERS, MOST_LINKS}
 use Rattle.server_commands.specs.declared.serve_words.ServeCounts.{ServeCounts}
 use Rattle.server_commands.specs.declared.serve_words.ServeWords.{ServeWords}
-use Rattle.server_commands.specs.Words.{projects_said}
+use Rattle.server_commands.specs.ReplayWords.{projects_said}
 use Rattle.server_commands.specs.ServeWords.{all_counted, addr_said, counts_said, number_or, said_with, serve_command, serve_said, serve_words}
 
 -- `serve` is a command whose parse is known

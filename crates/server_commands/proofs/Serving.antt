@@ -3,9 +3,9 @@ use Rattle.std.proofs.Common.{◌≡◌, ◌⊎◌, ◌↔◌, ◌∙◌, ℕ, B
 use Rattle.std.proofs.lemmas.List.Elements.{All-weaker}
 use Rattle.bim_io.specs.Causes.{Rose, counted}
 use Rattle.bim_net.specs.declared.hosts.Opening.{Opening}
-use Rattle.bim_net.specs.Seen.{DoorSeen}
+use Rattle.bim_net.specs.ConnectionViews.{DoorSeen}
 use Rattle.bim_net.specs.Hosts.{HostSeen, Closes, some_failed}
-use Rattle.book_turn.specs.Numbers.{numbers_from}
+use Rattle.book_turn.specs.NumberLists.{numbers_from}
 use Rattle.book_history.specs.History.{left_all}
 use Rattle.book_history.specs.Requests.{BookState}
 use Rattle.serve_lanes.specs.Histories.{Service, DoorServed, IsOver, some_lacked, some_spent}
@@ -13,7 +13,7 @@ use Rattle.check_workers.specs.Joins.{AreOfLanes}
 use Rattle.server_commands.specs.declared.serve.Ended.{Ended}
 use Rattle.server_commands.specs.declared.serve_words.ServeCounts.{ServeCounts}
 use Rattle.server_commands.specs.declared.serve_words.ServeWords.{ServeWords}
-use Rattle.server_commands.specs.Serving.{EndsAs, IsOverAt, ServesAll, ServesDoors, Serves, ServesBy, service_of, spent_by, status_by, without_book}
+use Rattle.server_commands.specs.ServeCommand.{EndsAs, IsOverAt, ServesAll, ServesDoors, Serves, ServesBy, service_of, spent_by, status_by, without_book}
 
 -- ---- the status
 

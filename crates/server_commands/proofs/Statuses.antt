@@ -1,8 +1,8 @@
 -- `generate` never answers 4.
 use Rattle.std.proofs.Common.{◌≡◌, ℕ, Bool, true, false, Option, Some, None, inl, inr, arith}
-use Rattle.bim_io.specs.Seen.{SinkSeen}
+use Rattle.bim_io.specs.StreamViews.{SinkSeen}
 use Rattle.batch_commands.specs.declared.generate_words.GenerateWords.{GenerateWords}
-use Rattle.batch_commands.specs.Commands.{Generates, GeneratesAs}
+use Rattle.batch_commands.specs.BatchCommands.{Generates, GeneratesAs}
 use Rattle.batch_commands.proofs.Blocks.{prints_not_four}
 
 generates_as_not_four : (file : Bool) (number count : ℕ) (a b : SinkSeen) (status : ℕ) → GeneratesAs file number count a b status → status ≡ 4 → ⊥

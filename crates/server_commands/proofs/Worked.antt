@@ -12,7 +12,7 @@ use Rattle.book_history.proofs.Histories.{AreOf, AreAbove, added_of, above_of, a
 use Rattle.bim_session.specs.Works.{Standing, IsTaken, Gives, WorksOne, WorksOn, left_behind, last_turn}
 use Rattle.bim_session.proofs.Sessions.{gives_grown, on_grown, last_turn-append, entry_new}
 use Rattle.server_commands.specs.Turns.{ServerState, with_turn, stamp_of, left_of}
-use Rattle.server_commands.specs.Working.{GivesOut, WorksBucket, WorksTimes, WorksPart}
+use Rattle.server_commands.specs.BucketWork.{GivesOut, WorksBucket, WorksTimes, WorksPart}
 
 -- the step of a call at the next turn
 abbrev pub step_of : ServerState → BookRequest → Step

@@ -1,7 +1,7 @@
 -- What the commands do and answer.
 use Rattle.std.specs.Prelude.{◌≡◌, ◌≢◌, ◌⊎◌, ℕ, List, [], ◌∷◌, if◌then◌else◌, Option, Some, None, codes}
 use Rattle.std.specs.Str.{bytes_eq}
-use Rattle.bim_io.specs.Seen.{ClockSeen, SinkSeen, Outside, outside}
+use Rattle.bim_io.specs.StreamViews.{ClockSeen, SinkSeen, Outside, outside}
 use Rattle.bim_session.specs.declared.end.SessionEnd.{SessionEnd}
 use Rattle.bim_session.specs.Replay.{Replays, stated_settings, status_of}
 use Rattle.server_commands.specs.declared.replay_words.ReplayWords.{ReplayWords}
@@ -10,13 +10,13 @@ use Rattle.server_commands.specs.declared.replay_words.Time.TheVariants.{OfClock
 use Rattle.bim_files.specs.Files.{FilesSeen}
 use Rattle.batch_commands.specs.CheckWords.{check_words}
 use Rattle.batch_commands.specs.GenerateWords.{generate_words}
-use Rattle.batch_commands.specs.Commands.{Checks, Generates}
-use Rattle.batch_commands.specs.Writes.{PrintsUsage, WantsMemory}
+use Rattle.batch_commands.specs.BatchCommands.{Checks, Generates}
+use Rattle.batch_commands.specs.PrintedOutput.{PrintsUsage, WantsMemory}
 use Rattle.bim_net.specs.Hosts.{HostSeen}
 use Rattle.server_commands.specs.declared.serve.Ended.{Ended}
-use Rattle.server_commands.specs.Words.{replay_words}
+use Rattle.server_commands.specs.ReplayWords.{replay_words}
 use Rattle.server_commands.specs.ServeWords.{serve_words}
-use Rattle.server_commands.specs.Serving.{ServesBy, without_book}
+use Rattle.server_commands.specs.ServeCommand.{ServesBy, without_book}
 
 -- nothing was read, and the clock was not asked
 abbrev pub ReadsNothing : Outside → Outside → Type 0

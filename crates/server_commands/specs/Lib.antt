@@ -1,7 +1,7 @@
 pub mod Turns
 pub mod OneActor
-pub mod Working
-pub mod Words
+pub mod BucketWork
+pub mod ReplayWords
 pub mod Commands
 pub mod ServeWords
-pub mod Serving
+pub mod ServeCommand

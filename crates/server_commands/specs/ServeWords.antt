@@ -1,12 +1,12 @@
 -- The words of `serve`, as the values that the parser of command lines finds say them.
 use Rattle.std.specs.Prelude.{◌≤◌, ℕ, List, Option, Some, None, codes}
 use Rattle.clap.specs.Words.{App, Row, first_of, with_rule}
-use Rattle.command_words.specs.Numbers.{number_word}
-use Rattle.command_words.specs.Words.{bare_command, option_of, said_by}
+use Rattle.command_words.specs.NumberWords.{number_word}
+use Rattle.command_words.specs.CommandOptions.{bare_command, option_of, said_by}
 use Rattle.server_commands.specs.declared.serve_words.TheConstants.{MOST_LANES, MOST_WORKERS, MOST_LINKS}
 use Rattle.server_commands.specs.declared.serve_words.ServeCounts.{ServeCounts}
 use Rattle.server_commands.specs.declared.serve_words.ServeWords.{ServeWords}
-use Rattle.server_commands.specs.Words.{IsCount, projects_said}
+use Rattle.server_commands.specs.ReplayWords.{IsCount, projects_said}
 
 -- `serve` has five options, in any order
 unfoldable pub serve_command : App

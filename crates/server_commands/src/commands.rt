@@ -1,9 +1,9 @@
 //! The commands.
 ghost use Rattle.std.specs.Prelude.{◌≡◌, ◌<◌, ◌⊎◌};
 ghost use Rattle.bim_io.specs.Causes.{Rose, ComesOfFault};
-ghost use Rattle.bim_io.specs.Seen.{outside};
-ghost use Rattle.server_commands.specs.Words.{replay_words, IsReplay};
-ghost use Rattle.server_commands.specs.Serving.{without_book};
+ghost use Rattle.bim_io.specs.StreamViews.{outside};
+ghost use Rattle.server_commands.specs.ReplayWords.{replay_words, IsReplay};
+ghost use Rattle.server_commands.specs.ServeCommand.{without_book};
 ghost use Rattle.server_commands.specs.Commands.{Does, ReplaysBy, Runs, command_of, Ends, SaysUsage, asked_by};
 
 use crate::replay::{replay_session, status_of};

@@ -6,7 +6,7 @@ ghost use Rattle.book_history.specs.Legal.{IsLegal};
 ghost use Rattle.bim_session.specs.Works.{IsFoundFor};
 ghost use Rattle.bim_session.specs.Replay.{stated_settings};
 ghost use Rattle.server_commands.specs.Turns.{Calls, left_of};
-ghost use Rattle.server_commands.specs.Working.{WorksBucket, WorksPart, WorksUpTo, WorksLess, WorksAll, WorksSome};
+ghost use Rattle.server_commands.specs.BucketWork.{WorksBucket, WorksPart, WorksUpTo, WorksLess, WorksAll, WorksSome};
 
 use bim_model::{Shared, Steps};
 use book_history::{BookRequest, Limits, MOST_PROJECTS, ReplyBody, Stamp, WorkOrder};

@@ -1,6 +1,6 @@
 //! One session over one source and one sink, with a one-thread book.
 ghost use Rattle.std.specs.Prelude.{◌≡◌, ◌≤◌};
-ghost use Rattle.bim_io.specs.Seen.{outside};
+ghost use Rattle.bim_io.specs.StreamViews.{outside};
 ghost use Rattle.bim_session.specs.Replay.{Replays, stated_settings, status_of};
 
 use crate::alone::Alone;

@@ -1,8 +1,8 @@
 //! The words of the command line. A parser of command lines takes them apart; what their values say is judged here.
 ghost use Rattle.std.specs.Prelude.{◌≡◌, option_map, IfOk, IfSome};
 ghost use Rattle.clap.specs.Words.{app_of, found_of, rows_of};
-ghost use Rattle.server_commands.specs.Words.{replay_command, time_said, buckets_said, projects_said, all_said};
-ghost use Rattle.server_commands.specs.Words.{replay_said, replay_words, IsTime, IsCount, IsReplay};
+ghost use Rattle.server_commands.specs.ReplayWords.{replay_command, time_said, buckets_said, projects_said, all_said};
+ghost use Rattle.server_commands.specs.ReplayWords.{replay_said, replay_words, IsTime, IsCount, IsReplay};
 
 use bim_model::{Moment, Text};
 use book_history::MOST_PROJECTS;

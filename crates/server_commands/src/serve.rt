@@ -4,7 +4,7 @@ ghost use Rattle.bim_io.specs.Causes.{Rose};
 ghost use Rattle.bim_net.specs.Hosts.{AreNew};
 ghost use Rattle.serve_lanes.specs.Histories.{TellsOne};
 ghost use Rattle.server_commands.specs.ServeWords.{serve_words, IsServe};
-ghost use Rattle.server_commands.specs.Serving.{Serves, ServesDoors, ServesBy, EndsAs, service_of, without_book};
+ghost use Rattle.server_commands.specs.ServeCommand.{Serves, ServesDoors, ServesBy, EndsAs, service_of, without_book};
 
 use crate::serve_words::{ServeCounts, ServeWords, serve_words};
 use bim_io::Clock;

@@ -1,7 +1,7 @@
 //! The words of `serve`.
 ghost use Rattle.std.specs.Prelude.{◌≡◌, ◌≤◌, option_map, IfOk, IfSome};
 ghost use Rattle.clap.specs.Words.{app_of, found_of, rows_of};
-ghost use Rattle.server_commands.specs.Words.{IsCount};
+ghost use Rattle.server_commands.specs.ReplayWords.{IsCount};
 ghost use Rattle.server_commands.specs.ServeWords.{serve_command, number_or, addr_said, all_counted, counts_said};
 ghost use Rattle.server_commands.specs.ServeWords.{serve_said, serve_words, IsServe};
 

@@ -1,7 +1,7 @@
 //! Servers over connections in memory, with a thread for each lane and each worker.
 ghost use Rattle.std.specs.Prelude.{true, IfOk, All};
 ghost use Rattle.bim_net.specs.Stores.{door_of};
-ghost use Rattle.bim_net.specs.Seen.{IsNew};
+ghost use Rattle.bim_net.specs.ConnectionViews.{IsNew};
 
 use crate::replay_tests::{FOUND, words_of};
 use bim_model::{Bytes, Items};

@@ -81,7 +81,7 @@ fn empty_version(alloc: Global) -> Result<Value, AllocError> {
 #[test]
 fn versions_are_written(rt: HostRuntime) -> Result<(), Fail> {
     let alloc = rt.alloc();
-    let wanted = r#"{"models":[],"newest":3,"rules":[],"version":0}"#;
+    let wanted = r#"{"models":[],"newest":3,"per_mm":10,"rules":[],"version":0}"#;
     is_written(&rt, alloc, empty_version(alloc)?, wanted)?;
     let tree = changed_out(alloc, 1, 2, 6, 2)?;
     let wanted = r#"{"elements":2,"left":2,"triangles":6,"version":1}"#;

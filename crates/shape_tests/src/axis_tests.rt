@@ -307,7 +307,7 @@ fn points_are_carried(rt: HostRuntime) {
         offset: Offset {
             x: 10,
             y: 20,
-            z: 800_000,
+            z: 8_000_000,
         },
     };
     assert_eq!(rt;
@@ -325,7 +325,7 @@ fn points_are_carried(rt: HostRuntime) {
         Offset {
             x: 80,
             y: 210,
-            z: 800_300
+            z: 8_000_300
         }
     );
     assert_eq!(rt;
@@ -337,7 +337,7 @@ fn points_are_carried(rt: HostRuntime) {
         Some(Point {
             x: 80,
             y: 210,
-            z: 799_999
+            z: 7_999_999
         })
     );
     assert_eq!(rt;

@@ -135,15 +135,21 @@ fn chains_are_ordered(rt: HostRuntime) -> Result<(), Fail> {
     Ok(())
 }
 
-const MILLIMETRES: Scale = Scale { power: 0 };
+const MILLIMETRES: Scale = Scale {
+    factor: 1,
+    power: 0,
+};
 
-const METRES: Scale = Scale { power: 3 };
+const METRES: Scale = Scale {
+    factor: 1,
+    power: 3,
+};
 
 /// A placement turned by a quarter and moved, one in it, and one whose location is between grid numbers.
 const PLACED: &str =
     "#1=IFCLOCALPLACEMENT(#2,#11);#2=IFCLOCALPLACEMENT($,#12);#3=IFCLOCALPLACEMENT($,#13);#4=IFCLOCALPLACEMENT($,#14);\
     #11=IFCAXIS2PLACEMENT3D(#21,$,$);#12=IFCAXIS2PLACEMENT3D(#22,$,#31);#13=IFCAXIS2PLACEMENT3D(#23,$,$);#14=IFCAXIS2PLACEMENT3D(#21,#32,$);\
-    #21=IFCCARTESIANPOINT((10.,20.,30.));#22=IFCCARTESIANPOINT((100.,200.,300.));#23=IFCCARTESIANPOINT((0.5,0.,0.));\
+    #21=IFCCARTESIANPOINT((10.,20.,30.));#22=IFCCARTESIANPOINT((100.,200.,300.));#23=IFCCARTESIANPOINT((0.55,0.,0.));\
     #31=IFCDIRECTION((0.,1.,0.));#32=IFCDIRECTION((0.,1.,1.));";
 
 #[test]
@@ -168,9 +174,9 @@ fn frames_are_composed(rt: HostRuntime) -> Result<(), Fail> {
             negative: false,
         },
         offset: Offset {
-            x: 100,
-            y: 200,
-            z: 300,
+            x: 1_000,
+            y: 2_000,
+            z: 3_000,
         },
     };
     assert_eq!(rt; frames.get(2), Some(turned));
@@ -180,9 +186,9 @@ fn frames_are_composed(rt: HostRuntime) -> Result<(), Fail> {
     );
     let inner = Frame {
         offset: Offset {
-            x: 80,
-            y: 210,
-            z: 330,
+            x: 800,
+            y: 2_100,
+            z: 3_300,
         },
         ..turned
     };
@@ -197,9 +203,9 @@ fn frames_are_composed(rt: HostRuntime) -> Result<(), Fail> {
     assert_eq!(rt;
         location_of(&exchange, 11, METRES, Mode::Exact),
         Some(Point {
-            x: 10_000,
-            y: 20_000,
-            z: 30_000
+            x: 100_000,
+            y: 200_000,
+            z: 300_000
         })
     );
     Ok(())
@@ -219,7 +225,7 @@ fn deep_frames_are_composed(rt: HostRuntime) -> Result<(), Fail> {
     assert_eq!(rt;
         frames.get(1).map(|frame| frame.offset),
         Some(Offset {
-            x: 1000,
+            x: 10_000,
             y: 0,
             z: 0
         })

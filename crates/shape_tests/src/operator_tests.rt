@@ -231,16 +231,19 @@ const OPERATORS: &str =
     #3=IFCCARTESIANTRANSFORMATIONOPERATOR3D($,$,#22,$,$);#4=IFCCARTESIANTRANSFORMATIONOPERATOR3D($,$,$,$,$);\
     #21=IFCCARTESIANPOINT((1.,2.,-3.));#22=IFCCARTESIANPOINT((0.,801.,0.));#31=IFCDIRECTION((-1.,0.,0.));";
 
-const METRES: Scale = Scale { power: 3 };
+const METRES: Scale = Scale {
+    factor: 1,
+    power: 3,
+};
 
 #[test]
 fn frames_of_operators_are_read(rt: HostRuntime) -> Result<(), Fail> {
     let alloc = rt.alloc();
     let exchange = exchange_of(alloc, OPERATORS)?;
     let offset = Offset {
-        x: 1000,
-        y: 2000,
-        z: -3000,
+        x: 10_000,
+        y: 20_000,
+        z: -30_000,
     };
     let straight = Frame {
         x: axis(1),

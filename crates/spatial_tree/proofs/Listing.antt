@@ -8,13 +8,13 @@ use Rattle.std.proofs.lemmas.List.Elements.{Contains-append_left, Contains-push,
 use Rattle.p21_values.specs.declared.value.Instance.{Instance}
 use Rattle.p21_values.proofs.Turns.{one_more}
 use Rattle.ifc_instances.specs.declared.entity.Entity.TheVariants.{Storey}
-use Rattle.ifc_instances.specs.Looking.{is_a}
+use Rattle.ifc_instances.specs.EntityLookup.{is_a}
 use Rattle.spatial_tree.specs.declared.step.Step.{Step}
 use Rattle.spatial_tree.specs.declared.mark.Mark.{Mark}
 use Rattle.spatial_tree.specs.declared.mark.Mark.TheVariants.{Looped}
-use Rattle.spatial_tree.specs.Marks.{mark_at}
+use Rattle.spatial_tree.specs.StoreyMarks.{mark_at}
 use Rattle.spatial_tree.specs.Trees.{ListsStoreyIds}
-use Rattle.spatial_tree.specs.Faults.{IsFaulty}
+use Rattle.spatial_tree.specs.TreeFaults.{IsFaulty}
 use Rattle.spatial_tree.proofs.Adding.{AnyBefore, before_more, before_kept, before_here, any_from_before, before_from_any}
 
 abbrev pub IsStoreyOfId : ℕ → Instance → Type 0

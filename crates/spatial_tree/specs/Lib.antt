@@ -3,6 +3,6 @@ pub mod Climbing
 pub mod Placing
 pub mod Trees
 pub mod Onlys
-pub mod Steps
-pub mod Marks
-pub mod Faults
+pub mod UpwardSteps
+pub mod StoreyMarks
+pub mod TreeFaults

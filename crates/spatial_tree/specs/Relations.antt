@@ -7,7 +7,7 @@ use Rattle.p21_values.specs.declared.value.Instance.{Instance}
 use Rattle.ifc_instances.specs.declared.entity.Entity.{Entity}
 use Rattle.ifc_instances.specs.declared.entity.Entity.TheVariants.{Aggregates, Containment, Storey}
 use Rattle.p21_values.specs.Values.{reference_of, items_of}
-use Rattle.ifc_instances.specs.Looking.{is_a}
+use Rattle.ifc_instances.specs.EntityLookup.{is_a}
 use Rattle.p21_values.specs.Attributes.{reference_at}
 
 -- An instance of the entity says that the object has that one above it: its attribute `many` is a list with a reference to the object, and its

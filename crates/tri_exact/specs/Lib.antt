@@ -1,5 +1,5 @@
-pub mod Limits
-pub mod Places
+pub mod ProductLimits
+pub mod GridVectors
 pub mod Within
 pub mod Foot
 pub mod Edges

@@ -1,9 +1,9 @@
 //! Whether a segment goes through a triangle.
 // Segments and triangles.
 ghost use Rattle.std.specs.Prelude.{◌≡◌, ◌≤◌, ◌↔◌, ◌⊎◌, unsigned_abs, IsTrue};
-ghost use Rattle.tri_exact.specs.Limits.{height_limit};
+ghost use Rattle.tri_exact.specs.ProductLimits.{height_limit};
 ghost use Rattle.exact_arith.specs.Space.{dot_of, minus, normal};
-ghost use Rattle.tri_exact.specs.Places.{at, face_at, IsPoint};
+ghost use Rattle.tri_exact.specs.GridVectors.{at, face_at, IsPoint};
 ghost use Rattle.tri_exact.specs.Within.{HasArea, Meets};
 ghost use Rattle.tri_exact.specs.Pierce.{Rises, PiercesFace, weight_a, weight_b, weight_c};
 

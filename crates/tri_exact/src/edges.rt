@@ -1,9 +1,9 @@
 //! Whether a point or a segment comes within a distance of a segment.
 // Points and edges, and two edges.
 ghost use Rattle.std.specs.Prelude.{ℕ, ◌≡◌, ◌≤◌, ℤ, pos, ◌*ℤ◌, ◌↔◌, unsigned_abs, IsTrue};
-ghost use Rattle.tri_exact.specs.Limits.{product_limit, distance_limit};
+ghost use Rattle.tri_exact.specs.ProductLimits.{product_limit, distance_limit};
 ghost use Rattle.exact_arith.specs.Space.{dot_of};
-ghost use Rattle.tri_exact.specs.Places.{at, IsPoint};
+ghost use Rattle.tri_exact.specs.GridVectors.{at, IsPoint};
 ghost use Rattle.tri_exact.specs.Within.{PointEdgeWithin, EdgesWithin};
 ghost use Rattle.tri_exact.specs.Edges.{Beside, Crosses, LinesClose};
 

@@ -1,8 +1,8 @@
 //! Whether a point comes within a distance of a triangle's inside.
 // Points and triangles.
 ghost use Rattle.std.specs.Prelude.{◌≡◌, ◌≤◌, ◌↔◌, unsigned_abs, IsTrue};
-ghost use Rattle.tri_exact.specs.Limits.{square_limit, distance_limit};
-ghost use Rattle.tri_exact.specs.Places.{at, face_at, IsPoint};
+ghost use Rattle.tri_exact.specs.ProductLimits.{square_limit, distance_limit};
+ghost use Rattle.tri_exact.specs.GridVectors.{at, face_at, IsPoint};
 ghost use Rattle.tri_exact.specs.Within.{HasArea, FootWithin};
 ghost use Rattle.tri_exact.specs.Foot.{square_of, Inside};
 

@@ -1,9 +1,9 @@
 //! Products of vectors, without overflow.
 // Products of vectors. Those of two vectors of the grid fit 64 bits, and those above them fit 128.
 ghost use Rattle.std.specs.Prelude.{ℕ, ◌≡◌, ◌≤◌, ℤ, pos, ◌-ℤ◌, ◌*ℤ◌, ◌≤ℤ◌, ◌↔◌, unsigned_abs, IsTrue};
-ghost use Rattle.tri_exact.specs.Limits.{product_limit, height_limit, square_limit, minor_limit, distance_limit};
+ghost use Rattle.tri_exact.specs.ProductLimits.{product_limit, height_limit, square_limit, minor_limit, distance_limit};
 ghost use Rattle.exact_arith.specs.Space.{dot_of, cross_of, minus};
-ghost use Rattle.tri_exact.specs.Places.{at, wide, straight, IsPoint, IsCross};
+ghost use Rattle.tri_exact.specs.GridVectors.{at, wide, straight, IsPoint, IsCross};
 ghost use Rattle.tri_exact.specs.Foot.{orient_of};
 
 use crate::{Normal, V3, W3};

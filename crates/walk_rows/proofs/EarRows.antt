@@ -10,7 +10,7 @@ use Rattle.p21_values.specs.declared.value.Instance.{Instance}
 use Rattle.ear_cut.specs.declared.ears.Ear.{Ear}
 use Rattle.ear_cut.specs.Areas.{point_at}
 use Rattle.ear_cut.specs.Removal.{cut_of}
-use Rattle.faceset.specs.Sets.{NamesPoint, IsCut, outline, triangle_of, most_corners}
+use Rattle.faceset.specs.FaceSets.{NamesPoint, IsCut, outline, triangle_of, most_corners}
 use Rattle.walk_rows.specs.declared.triangle_rows.Row.{Row}
 use Rattle.walk_rows.specs.Rows.{triangle_at, triangles_at, place_at, row_at, AddsRows}
 use Rattle.walk_rows.proofs.RowsNamed.{zip_long, corners_named}

@@ -4,7 +4,7 @@ use Rattle.std.specs.List.{All}
 use Rattle.p21_values.specs.declared.value.Value21.{Value21}
 use Rattle.p21_values.specs.declared.value.Instance.{Instance}
 use Rattle.p21_values.specs.Attributes.{listed}
-use Rattle.faceset.specs.Sets.{is_polygonal}
+use Rattle.faceset.specs.FaceSets.{is_polygonal}
 use Rattle.walk_rows.specs.SetRows.{LeadsToFace, NamesFaces}
 
 -- those of a polygonal set

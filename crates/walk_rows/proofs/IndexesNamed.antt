@@ -8,7 +8,7 @@ use Rattle.p21_values.specs.declared.value.Value21.{Value21}
 use Rattle.p21_values.specs.declared.value.Instance.{Instance}
 use Rattle.p21_values.specs.Attributes.{items_in}
 use Rattle.faceset.specs.Indexes.{PointsAt, PointsNowhere}
-use Rattle.faceset.specs.Sets.{IsCorner, IsTriangle, AreTriangles, AreCorners, IsCut, Joined, SetTriangles, HasBadNumber, HasBadIndex, counted_by, numbering, spelled_points, is_polygonal, rows_of, outline, faces_of, spelled_triangles}
+use Rattle.faceset.specs.FaceSets.{IsCorner, IsTriangle, AreTriangles, AreCorners, IsCut, Joined, SetTriangles, HasBadNumber, HasBadIndex, counted_by, numbering, spelled_points, is_polygonal, rows_of, outline, faces_of, spelled_triangles}
 use Rattle.walk_rows.specs.SetRows.{NamesOne, NamesPoints}
 
 -- the first of a list, or a later one

@@ -7,7 +7,7 @@ use Rattle.bim_model.specs.declared.geometry.Triangle.{Triangle}
 use Rattle.p21_values.specs.declared.value.Value21.{Value21}
 use Rattle.p21_values.specs.declared.value.Instance.{Instance}
 use Rattle.ear_cut.proofs.AreaSum.{count_of_ears}
-use Rattle.faceset.specs.Sets.{IsCorner, IsTriangle, IsCut, Joined, SetTriangles, numbering, is_polygonal, outline, faces_of, spelled_triangles, face_count, triangle_count, triangle_of}
+use Rattle.faceset.specs.FaceSets.{IsCorner, IsTriangle, IsCut, Joined, SetTriangles, numbering, is_polygonal, outline, faces_of, spelled_triangles, face_count, triangle_count, triangle_of}
 use Rattle.walk_rows.proofs.RowsNamed.{zip_long}
 
 cut_count : (names : Option (List Value21)) (points : List Point) (face : Instance) (ts : List Triangle) → IsCut names points face ts → length ts ≡ face_count face

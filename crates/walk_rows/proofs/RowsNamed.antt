@@ -6,7 +6,7 @@ use Rattle.bim_model.specs.declared.geometry.Point.{Point}
 use Rattle.p21_values.specs.declared.value.Value21.{Value21}
 use Rattle.ear_cut.specs.Areas.{point_at}
 use Rattle.faceset.specs.Indexes.{PointsAt}
-use Rattle.faceset.specs.Sets.{NamesPoint, IsCorner, AreCorners, IsTriangle, AreTriangles}
+use Rattle.faceset.specs.FaceSets.{NamesPoint, IsCorner, AreCorners, IsTriangle, AreTriangles}
 use Rattle.walk_rows.specs.declared.triangle_rows.Row.{Row}
 use Rattle.walk_rows.specs.Rows.{triangle_at, triangles_at, AreNumbers, IsRowOf}
 

@@ -8,7 +8,7 @@ use Rattle.bim_model.specs.declared.geometry.Triangle.{Triangle}
 use Rattle.p21_values.specs.declared.value.Value21.{Value21}
 use Rattle.p21_values.specs.declared.value.Instance.{Instance}
 use Rattle.p21_values.specs.Attributes.{listed, led_to}
-use Rattle.faceset.specs.Sets.{IsCut, Joined, AreTriangles, SetTriangles, is_polygonal, numbering, faces_of, spelled_triangles}
+use Rattle.faceset.specs.FaceSets.{IsCut, Joined, AreTriangles, SetTriangles, is_polygonal, numbering, faces_of, spelled_triangles}
 use Rattle.walk_rows.specs.declared.triangle_rows.Row.{Row}
 use Rattle.walk_rows.specs.Rows.{triangles_at, IsRowOf}
 use Rattle.walk_rows.proofs.RowsNamed.{rows_triangles}

@@ -8,7 +8,7 @@ use Rattle.p21_values.specs.Values.{items_of}
 use Rattle.ear_cut.specs.declared.ears.Ear.{Ear}
 use Rattle.ear_cut.specs.Areas.{point_at}
 use Rattle.faceset.specs.Indexes.{PointsAt}
-use Rattle.faceset.specs.Sets.{NamesPoint}
+use Rattle.faceset.specs.FaceSets.{NamesPoint}
 use Rattle.walk_rows.specs.declared.triangle_rows.Row.{Row}
 
 -- the triangle whose corners stand there

@@ -5,12 +5,12 @@ use Rattle.std.specs.List.{slice_get}
 use Rattle.p21_values.specs.declared.value.Value21.{Value21}
 use Rattle.p21_values.specs.declared.value.Instance.{Instance}
 use Rattle.p21_values.specs.Values.{items_of, is_absent, reference_of}
-use Rattle.p21_values.specs.Looking.{look}
+use Rattle.p21_values.specs.InstanceLookup.{look}
 use Rattle.p21_values.specs.Attributes.{listed}
 use Rattle.ifc_instances.specs.declared.entity.Entity.TheVariants.{Face}
-use Rattle.ifc_instances.specs.Looking.{is_a}
+use Rattle.ifc_instances.specs.EntityLookup.{is_a}
 use Rattle.faceset.specs.Indexes.{PointsAt}
-use Rattle.faceset.specs.Sets.{is_polygonal, numbering_place}
+use Rattle.faceset.specs.FaceSets.{is_polygonal, numbering_place}
 
 -- the attribute with the numbers of the points is a list, or is left out
 abbrev pub HasNumbering : Instance → Type 0

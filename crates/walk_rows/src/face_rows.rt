@@ -6,7 +6,7 @@ ghost use Rattle.bim_model.specs.Points.{IsGridPoint};
 ghost use Rattle.p21_values.specs.declared.value.Value21.{Value21};
 ghost use Rattle.p21_values.specs.Attributes.{led_to};
 ghost use Rattle.ear_cut.specs.Areas.{point_at};
-ghost use Rattle.faceset.specs.Sets.{NamesPoint, IsCut, Joined, most_corners};
+ghost use Rattle.faceset.specs.FaceSets.{NamesPoint, IsCut, Joined, most_corners};
 ghost use Rattle.walk_rows.specs.Rows.{AreNumbers, AddsRows, place_at, row_at, triangles_at};
 ghost use Rattle.walk_rows.specs.SetRows.{LeadsToFace};
 

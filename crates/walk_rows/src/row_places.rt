@@ -4,7 +4,7 @@ ghost use Rattle.std.specs.List.{AllZip};
 ghost use Rattle.p21_values.specs.declared.value.Value21.{Value21};
 ghost use Rattle.p21_table.specs.ShortRows.{SaysShort, SaysRow};
 ghost use Rattle.faceset.specs.Indexes.{PointsAt};
-ghost use Rattle.faceset.specs.Sets.{NamesPoint};
+ghost use Rattle.faceset.specs.FaceSets.{NamesPoint};
 ghost use Rattle.walk_rows.specs.Rows.{AreNumbers, IsRowOf};
 
 use crate::triangle_rows::Row;

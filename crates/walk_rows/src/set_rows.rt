@@ -2,7 +2,7 @@
 ghost use Rattle.std.specs.Prelude.{◌≡◌, ◌<◌, ◌^◌, All, length, IfOk, IfSome, option_copied};
 ghost use Rattle.std.specs.Bool.{OnTrue};
 ghost use Rattle.bim_model.specs.Points.{IsGridPoint};
-ghost use Rattle.faceset.specs.Sets.{numbering, SetTriangles};
+ghost use Rattle.faceset.specs.FaceSets.{numbering, SetTriangles};
 ghost use Rattle.walk_rows.specs.Rows.{AreNumbers, triangles_at};
 ghost use Rattle.walk_rows.specs.SetRows.{HasNumbering, NamesFaces, NamesPoints};
 

@@ -1,7 +1,7 @@
 use Rattle.std.proofs.Common.{Option, inl, refl, subst, arith}
 use Rattle.batch_commands.specs.declared.check_words.CheckWords.{CheckWords}
 use Rattle.batch_commands.specs.CheckWords.{check_words}
-use Rattle.batch_commands.specs.Commands.{Checks}
+use Rattle.batch_commands.specs.BatchCommands.{Checks}
 use Rattle.batch_commands.proofs.Answered.{check_wanting, unread_status, unwritten_status}
 use Rattle.batch_commands.proofs.check.run_check.Goals as goal
 

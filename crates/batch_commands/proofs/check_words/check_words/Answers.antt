@@ -1,7 +1,7 @@
 use Rattle.std.proofs.Common.{◌∙◌, sym, ap, map, subst}
 use Rattle.std.proofs.lemmas.Result.{IfOk-weaker}
 use Rattle.clap.specs.Words.{App, app_of}
-use Rattle.command_words.specs.Words.{IsPlainCommand}
+use Rattle.command_words.specs.CommandOptions.{IsPlainCommand}
 use Rattle.command_words.proofs.Grammar.{words_refused, words_said}
 use Rattle.batch_commands.specs.CheckWords.{check_command, check_said}
 use Rattle.batch_commands.proofs.Plain.{check_is_plain}

@@ -1,4 +1,4 @@
-use Rattle.model_generator.specs.Files.{generated}
+use Rattle.model_generator.specs.GeneratedFiles.{generated}
 use Rattle.batch_commands.proofs.Blocks.{prints_of}
 use Rattle.batch_commands.proofs.generate.answer_file.Goals as goal
 

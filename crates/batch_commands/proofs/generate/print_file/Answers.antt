@@ -1,6 +1,6 @@
 use Rattle.std.proofs.Common.{List, [], ℕ, append-nil, sym, subst, ◌∙◌}
-use Rattle.model_generator.specs.Files.{generated}
-use Rattle.batch_commands.specs.Writes.{Flushes}
+use Rattle.model_generator.specs.GeneratedFiles.{generated}
+use Rattle.batch_commands.specs.PrintedOutput.{Flushes}
 use Rattle.batch_commands.proofs.Blocks.{first_stopped, put_last, residual}
 use Rattle.batch_commands.proofs.generate.print_file.Goals as goal
 

@@ -1,7 +1,7 @@
 use Rattle.std.proofs.Common.{Option, inl, refl, subst, arith}
 use Rattle.batch_commands.specs.declared.generate_words.GenerateWords.{GenerateWords}
 use Rattle.batch_commands.specs.GenerateWords.{generate_words}
-use Rattle.batch_commands.specs.Commands.{Generates}
+use Rattle.batch_commands.specs.BatchCommands.{Generates}
 use Rattle.batch_commands.proofs.Answered.{generate_wanting, unwritten_status}
 use Rattle.batch_commands.proofs.generate.run_generate.Goals as goal
 

@@ -1,7 +1,7 @@
 use Rattle.std.proofs.Common.{◌≡◌, ◌∙◌, ap, codes}
 use Rattle.std.proofs.lemmas.Result.{IfOk-weaker}
 use Rattle.clap.specs.Words.{App, app_of, with_rule}
-use Rattle.command_words.specs.Words.{bare_command, flag_of, option_of}
+use Rattle.command_words.specs.CommandOptions.{bare_command, flag_of, option_of}
 use Rattle.batch_commands.specs.GenerateWords.{generate_command}
 use Rattle.batch_commands.proofs.generate_words.generate_command.Goals as goal
 

@@ -1,6 +1,6 @@
 use Rattle.std.proofs.Common.{◌∙◌, sym, ap, map, subst}
 use Rattle.clap.specs.Words.{App, app_of}
-use Rattle.command_words.specs.Words.{IsPlainCommand}
+use Rattle.command_words.specs.CommandOptions.{IsPlainCommand}
 use Rattle.command_words.proofs.Grammar.{words_refused, words_said}
 use Rattle.batch_commands.specs.GenerateWords.{generate_command, generate_said}
 use Rattle.batch_commands.proofs.Plain.{generate_is_plain}

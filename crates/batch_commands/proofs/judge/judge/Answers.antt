@@ -1,6 +1,6 @@
 use Rattle.std.proofs.Common.{List, sym, subst, ◌∙◌}
 use Rattle.bim_model.specs.Snapshots.{Version}
-use Rattle.clash_check.specs.Versions.{IsChecked}
+use Rattle.clash_check.specs.VersionChecks.{IsChecked}
 use Rattle.batch_commands.specs.declared.check_words.ModelWord.{ModelWord}
 use Rattle.batch_commands.specs.Judging.{IsFirstRefused, IsMadeOf, IsRefusal}
 use Rattle.batch_commands.proofs.Blocks.{residual}

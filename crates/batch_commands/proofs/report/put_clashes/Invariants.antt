@@ -1,6 +1,6 @@
 use Rattle.std.proofs.Common.{Ok, take}
 use Rattle.batch_commands.specs.Reports.{clash_lines}
-use Rattle.batch_commands.specs.Writes.{Puts}
+use Rattle.batch_commands.specs.PrintedOutput.{Puts}
 use Rattle.batch_commands.proofs.report.put_clashes.Given as goal
 
 abbrev pub invariant-loop-pair : goal.invariant-loop-pair

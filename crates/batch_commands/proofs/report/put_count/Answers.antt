@@ -1,6 +1,6 @@
 use Rattle.std.proofs.Common.{List, ℕ, subst, ◌∙◌}
 use Rattle.batch_commands.specs.declared.block.Stop.TheVariants.{Memory}
-use Rattle.batch_commands.specs.Writes.{Puts}
+use Rattle.batch_commands.specs.PrintedOutput.{Puts}
 use Rattle.batch_commands.proofs.Blocks.{memory_stops, residual}
 use Rattle.batch_commands.proofs.report.put_count.Goals as goal
 

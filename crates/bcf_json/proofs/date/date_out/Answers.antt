@@ -1,6 +1,6 @@
 use Rattle.std.proofs.Common.{◌∙◌}
 use Rattle.std.proofs.lemmas.Result.{IfOk-weaker}
-use Rattle.bcf_json.specs.Texts.{IsDateText}
+use Rattle.bcf_json.specs.JsonTexts.{IsDateText}
 use Rattle.bcf_json.proofs.date.date_out.Goals as goal
 
 pub returns : goal.returns

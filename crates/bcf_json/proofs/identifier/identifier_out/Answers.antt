@@ -2,7 +2,7 @@ use Rattle.std.proofs.Common.{◌∙◌, ap}
 use Rattle.std.proofs.lemmas.Result.{IfOk-weaker}
 use Rattle.std.specs.Int.{to_be_bytes, w128}
 use Rattle.uuid.specs.Text.{hyphenated_text, lower}
-use Rattle.bcf_json.specs.Texts.{identifier_text}
+use Rattle.bcf_json.specs.JsonTexts.{identifier_text}
 use Rattle.bcf_json.proofs.identifier.identifier_out.Goals as goal
 
 pub returns : goal.returns

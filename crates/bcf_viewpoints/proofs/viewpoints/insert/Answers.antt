@@ -1,5 +1,5 @@
 use Rattle.std.proofs.Common.{sym, subst}
-use Rattle.bcf_viewpoints.specs.Views.{Views, AreViews, views_with}
+use Rattle.bcf_viewpoints.specs.Viewpoints.{Views, AreViews, views_with}
 use Rattle.bcf_viewpoints.proofs.Kept.{with_kept}
 use Rattle.bcf_viewpoints.proofs.viewpoints.insert.Goals as goal
 

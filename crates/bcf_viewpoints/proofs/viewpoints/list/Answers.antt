@@ -1,6 +1,6 @@
 use Rattle.std.proofs.Common.{map, ap, ◌∙◌}
 use Rattle.bcf_topics.proofs.Ranges.{of_topic}
-use Rattle.bcf_viewpoints.specs.Views.{views_of}
+use Rattle.bcf_viewpoints.specs.Viewpoints.{views_of}
 use Rattle.bcf_viewpoints.proofs.viewpoints.list.Goals as goal
 
 pub loop-place-init : goal.loop-place-init

@@ -1,5 +1,5 @@
 use Rattle.std.proofs.Common.{◌≡◌, ◌++◌, map}
-use Rattle.bcf_viewpoints.specs.Views.{views_of}
+use Rattle.bcf_viewpoints.specs.Viewpoints.{views_of}
 use Rattle.bcf_viewpoints.proofs.viewpoints.list.Given as goal
 
 abbrev pub invariant-loop-place : goal.invariant-loop-place

@@ -6,7 +6,7 @@ use Rattle.std.proofs.lemmas.Map.Iter.{rest_more}
 use Rattle.bcf_topics.proofs.Ranges.{of_topic}
 use Rattle.bcf_viewpoints.specs.declared.view.ViewBody.{ViewBody}
 use Rattle.bcf_viewpoints.specs.declared.view.ViewIs.{ViewIs}
-use Rattle.bcf_viewpoints.specs.Views.{Views, IsViewBody, viewpoint, views_on}
+use Rattle.bcf_viewpoints.specs.Viewpoints.{Views, IsViewBody, viewpoint, views_on}
 use Rattle.bcf_viewpoints.proofs.Kept.{HasGood, topic_good}
 use Rattle.bcf_viewpoints.proofs.viewpoints.listed.Goals as goal
 

@@ -1,6 +1,6 @@
 use Rattle.std.proofs.Common.{◌≡◌, ◌++◌, map}
 use Rattle.std.specs.List.{All}
-use Rattle.bcf_viewpoints.specs.Views.{viewpoint, views_on}
+use Rattle.bcf_viewpoints.specs.Viewpoints.{viewpoint, views_on}
 use Rattle.bcf_viewpoints.proofs.Kept.{HasGood}
 use Rattle.bcf_viewpoints.proofs.viewpoints.listed.Given as goal
 

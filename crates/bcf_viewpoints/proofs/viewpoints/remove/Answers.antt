@@ -1,4 +1,4 @@
-use Rattle.bcf_viewpoints.specs.Views.{views_but}
+use Rattle.bcf_viewpoints.specs.Viewpoints.{views_but}
 use Rattle.bcf_viewpoints.proofs.Kept.{but_kept}
 use Rattle.bcf_viewpoints.proofs.viewpoints.remove.Goals as goal
 

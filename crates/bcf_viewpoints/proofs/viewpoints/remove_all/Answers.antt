@@ -1,6 +1,6 @@
 use Rattle.std.proofs.Common.{◌==◌, not, rules}
 use Rattle.std.proofs.lemmas.Map.Made.{filter_same_pairs}
-use Rattle.bcf_viewpoints.specs.Views.{views_off}
+use Rattle.bcf_viewpoints.specs.Viewpoints.{views_off}
 use Rattle.bcf_viewpoints.proofs.Kept.{off_kept}
 use Rattle.bcf_viewpoints.proofs.viewpoints.remove_all.Goals as goal
 

@@ -1,5 +1,5 @@
 use Rattle.std.proofs.Common.{◌≡◌, take}
-use Rattle.bim_files.specs.Memory.{lent_times}
+use Rattle.bim_files.specs.MemoryFiles.{lent_times}
 use Rattle.bim_files.proofs.loans.lent_place_of.Given as goal
 
 abbrev pub invariant-places : goal.invariant-places

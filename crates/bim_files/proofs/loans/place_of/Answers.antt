@@ -1,7 +1,7 @@
 use Rattle.std.proofs.Common.{◌≡◌, All, List, false, subst, arith}
 use Rattle.std.proofs.lemmas.List.{take_all}
 use Rattle.bim_files.specs.declared.loans.MemFile.{MemFile}
-use Rattle.bim_files.specs.Memory.{has_name}
+use Rattle.bim_files.specs.MemoryFiles.{has_name}
 use Rattle.bim_files.proofs.Lending.{none_more}
 use Rattle.bim_files.proofs.loans.place_of.Goals as goal
 

@@ -1,6 +1,6 @@
 use Rattle.std.proofs.Common.{◌≡◌, All, take, false}
 use Rattle.bim_files.specs.declared.loans.MemFile.{MemFile}
-use Rattle.bim_files.specs.Memory.{has_name}
+use Rattle.bim_files.specs.MemoryFiles.{has_name}
 use Rattle.bim_files.proofs.loans.place_of.Given as goal
 
 abbrev pub invariant-places : goal.invariant-places

@@ -1,5 +1,5 @@
 use Rattle.std.proofs.Common.{◌≡◌, length, take, ◌-◌, ◌≤◌}
-use Rattle.bim_io.specs.Seen.{SinkTakes}
+use Rattle.bim_io.specs.StreamViews.{SinkTakes}
 use Rattle.bim_io.proofs.whole.write_whole.Given as goal
 
 abbrev pub invariant-loop-at : goal.invariant-loop-at

@@ -1,5 +1,5 @@
 use Rattle.std.proofs.Common.{false, map, refl, sym, subst, arith, rules}
-use Rattle.bim_net.specs.Seen.{IsNew}
+use Rattle.bim_net.specs.ConnectionViews.{IsNew}
 use Rattle.bim_net.specs.Hosts.{AreNew}
 use Rattle.bim_net.proofs.NewDoors.{new_more}
 use Rattle.bim_sockets.specs.Sockets.{TcpDoorState, door_seen}

@@ -1,7 +1,7 @@
 use Rattle.std.proofs.Common.{nat_lt, rules, tests, ◌∙◌}
 use Rattle.std.proofs.lemmas.Iterator.{YieldsList-from_slice}
 use Rattle.std.proofs.lemmas.Iterator.Search.{any_from_yields_List}
-use Rattle.bim_net.specs.Seen.{DoorSeen}
+use Rattle.bim_net.specs.ConnectionViews.{DoorSeen}
 use Rattle.bim_net.proofs.NewDoors.{any_map}
 use Rattle.bim_sockets.specs.Sockets.{door_seen}
 use Rattle.bim_sockets.proofs.host.some_failed.Goals as goal

@@ -1,5 +1,5 @@
 use Rattle.std.proofs.Common.{◌≡◌, ◌+◌, ◌-◌, ◌≤◌, ◌⊎◌, length, drop}
-use Rattle.bim_text.specs.Texts.{is_hexadecimal}
+use Rattle.bim_text.specs.TextSpellings.{is_hexadecimal}
 use Rattle.p21_lexer.specs.Spelling.{run}
 use Rattle.bim_text.proofs.byte_classes.count_hexadecimals.Given as goal
 

@@ -1,6 +1,6 @@
 use Rattle.std.proofs.Common.{◌≡◌, ℕ, ◌++◌, List, ap, ◌∙◌, subst, arith}
 use Rattle.std.specs.Prelude.{encode_utf8}
-use Rattle.bim_text.specs.Texts.{cleaned, character, group, wide_row}
+use Rattle.bim_text.specs.TextSpellings.{cleaned, character, group, wide_row}
 use Rattle.bim_text.specs.Says.{accepts, Leaves, Lacks}
 use Rattle.bim_text.proofs.RowLemmas.{groups_room, groups_end}
 use Rattle.bim_text.proofs.Saying.{group_some, group_none}

@@ -1,5 +1,5 @@
 use Rattle.std.proofs.Common.{◌≡◌, ◌+◌, ◌*◌, ◌/◌, ◌≤◌, ◌++◌, ℕ, List}
-use Rattle.bim_text.specs.Texts.{cleaned, groups}
+use Rattle.bim_text.specs.TextSpellings.{cleaned, groups}
 use Rattle.bim_text.specs.Says.{accepts}
 use Rattle.bim_text.proofs.compare.after_groups.Given as goal
 

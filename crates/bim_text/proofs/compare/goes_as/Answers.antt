@@ -1,6 +1,6 @@
 use Rattle.std.proofs.Common.{◌<◌, List, ℕ, length, sym, ap, ◌∙◌}
 use Rattle.std.proofs.lemmas.Bool.{ltb-true}
-use Rattle.bim_text.specs.Texts.{cleaned, rows}
+use Rattle.bim_text.specs.TextSpellings.{cleaned, rows}
 use Rattle.bim_text.specs.Says.{accepts}
 use Rattle.bim_text.proofs.Saying.{rows_some, rows_none, nothing_left}
 use Rattle.bim_text.proofs.compare.goes_as.Goals as goal

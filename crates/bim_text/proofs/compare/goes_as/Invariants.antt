@@ -1,5 +1,5 @@
 use Rattle.std.proofs.Common.{◌≡◌, length}
-use Rattle.bim_text.specs.Texts.{cleaned, rows, text_of_spelling}
+use Rattle.bim_text.specs.TextSpellings.{cleaned, rows, text_of_spelling}
 use Rattle.bim_text.specs.Says.{accepts}
 use Rattle.bim_text.proofs.compare.goes_as.Given as goal
 

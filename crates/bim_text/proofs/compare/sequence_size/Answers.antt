@@ -1,7 +1,7 @@
 use Rattle.std.proofs.Common.{◌≡◌, ℕ, ◌-◌, ◌≤◌, length, get_or, nat_lt, inl, inr, sym, ap, ◌∙◌, subst, arith}
 use Rattle.std.specs.Str.{IsUtf8}
 use Rattle.std.proofs.lemmas.Bool.{ltb-true, cases_Bool}
-use Rattle.bim_text.specs.Texts.{cleaned, sequence_len}
+use Rattle.bim_text.specs.TextSpellings.{cleaned, sequence_len}
 use Rattle.bim_text.proofs.RowLemmas.{high_whole}
 use Rattle.bim_text.proofs.compare.sequence_size.Goals as goal
 

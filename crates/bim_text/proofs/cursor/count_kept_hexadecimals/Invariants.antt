@@ -1,5 +1,5 @@
 use Rattle.std.proofs.Common.{◌≡◌, ◌+◌, ◌≤◌, length}
-use Rattle.bim_text.specs.Texts.{cleaned, is_hexadecimal}
+use Rattle.bim_text.specs.TextSpellings.{cleaned, is_hexadecimal}
 use Rattle.p21_lexer.specs.Spelling.{run}
 use Rattle.bim_text.proofs.cursor.count_kept_hexadecimals.Given as goal
 

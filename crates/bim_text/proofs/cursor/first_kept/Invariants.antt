@@ -1,5 +1,5 @@
 use Rattle.std.proofs.Common.{◌≡◌, ◌-◌, ◌≤◌, length, drop}
-use Rattle.bim_text.specs.Texts.{cleaned}
+use Rattle.bim_text.specs.TextSpellings.{cleaned}
 use Rattle.bim_text.proofs.cursor.first_kept.Given as goal
 
 abbrev pub invariant-loop-at : goal.invariant-loop-at

@@ -1,6 +1,6 @@
 use Rattle.std.proofs.Common.{sym, ◌∙◌, subst}
-use Rattle.bim_text.specs.Values.{SameValue}
-use Rattle.bim_text.specs.Numbers.{Spelling, written}
+use Rattle.bim_text.specs.ScaledNumbers.{SameValue}
+use Rattle.bim_text.specs.NumberSpellings.{Spelling, written}
 use Rattle.bim_text.specs.Decimals.{value_of}
 use Rattle.bim_text.proofs.Parts.{parts_only}
 use Rattle.bim_text.proofs.laws.one_value.Goals as goal

@@ -1,6 +1,6 @@
 use Rattle.std.proofs.Common.{◌≡◌, ◌+◌, ◌*◌, ◌/◌, ◌≤◌, ◌++◌}
 use Rattle.std.specs.Prelude.{string_bytes}
-use Rattle.bim_text.specs.Texts.{groups}
+use Rattle.bim_text.specs.TextSpellings.{groups}
 use Rattle.bim_text.proofs.rows.push_groups.Given as goal
 
 abbrev pub invariant-loop-left : goal.invariant-loop-left

@@ -1,6 +1,6 @@
 use Rattle.std.proofs.Common.{◌≡◌, ◌-◌, ◌≤◌, ◌++◌, length, drop}
 use Rattle.std.specs.Prelude.{string_bytes}
-use Rattle.bim_text.specs.Texts.{rows}
+use Rattle.bim_text.specs.TextSpellings.{rows}
 use Rattle.bim_text.proofs.spelled_text.decode.Given as goal
 
 abbrev pub invariant-loop-at : goal.invariant-loop-at

@@ -1,5 +1,5 @@
 use Rattle.std.proofs.Common.{◌≡◌, ◌+◌, ◌-◌, ◌≤◌, length, drop}
-use Rattle.bim_text.specs.Texts.{is_plain}
+use Rattle.bim_text.specs.TextSpellings.{is_plain}
 use Rattle.p21_lexer.specs.Spelling.{run}
 use Rattle.bim_text.proofs.spelled_text.plain_end.Given as goal
 

@@ -1,5 +1,5 @@
 use Rattle.bucket_grid.specs.Grids.{GridValue}
-use Rattle.book_history.specs.Laws.{IsWhole}
+use Rattle.book_history.specs.HistoryLaws.{IsWhole}
 use Rattle.book_history.proofs.OneGrid.{HasParts, one_grid}
 use Rattle.book_history.proofs.laws.grids_are_one.Goals as goal
 

@@ -1,5 +1,5 @@
 use Rattle.std.proofs.Common.{◌∙◌, sym, ap, subst}
-use Rattle.bucket_check.specs.Sets.{SetValue}
+use Rattle.bucket_check.specs.ClashSets.{SetValue}
 use Rattle.book_history.specs.Legal.{IsGiven}
 use Rattle.book_tests.proofs.desk.bring.Goals as goal
 

@@ -1,6 +1,6 @@
 use Rattle.std.proofs.Common.{rules, List, ℕ, ◌≡◌, ◌<◌, ◌≤◌, [], ◌∷◌, Some, sym, ap, subst}
 use Rattle.atomic_table.specs.Table.{opening}
-use Rattle.book_turn.specs.Views.{first_view}
+use Rattle.book_turn.specs.PassViews.{first_view}
 use Rattle.book_turn.specs.Rule.{Kept}
 use Rattle.book_turn.proofs.Keeps.{opens}
 use Rattle.book_turn.proofs.tickets.board_of.Goals as goal

@@ -1,5 +1,5 @@
 use Rattle.std.proofs.Common.{ℕ, suc, ◌≡◌, ◌-◌, ◌+◌, [], ◌∷◌, ◌++◌, refl, sym, ap, ◌∙◌, subst, arith}
-use Rattle.book_turn.specs.Views.{dealt_view}
+use Rattle.book_turn.specs.PassViews.{dealt_view}
 use Rattle.book_turn.specs.Passes.{new_pass, new_passes, pass_state}
 use Rattle.book_turn.proofs.Ends.{cut_kept, cut_given, may_cut, new_idle, new_state, new_passes_next}
 use Rattle.book_turn.proofs.turn.deal.Goals as goal

@@ -1,5 +1,5 @@
 use Rattle.std.proofs.Common.{◌≡◌, ◌-◌, []}
-use Rattle.book_turn.specs.Views.{dealt_view}
+use Rattle.book_turn.specs.PassViews.{dealt_view}
 use Rattle.book_turn.specs.Passes.{new_passes}
 use Rattle.book_turn.proofs.turn.deal.Given as goal
 

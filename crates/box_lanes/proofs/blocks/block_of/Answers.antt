@@ -2,7 +2,7 @@ use Rattle.std.proofs.Common.{rules, ◌≡◌, ℤ, List, false, [], ◌∷◌}
 use Rattle.std.specs.List.{All}
 use Rattle.std.proofs.lemmas.List.Elements.{All-nil, All-cons, All-weaker}
 use Rattle.bim_model.specs.declared.geometry.Extent.{Extent}
-use Rattle.box_lanes.specs.Lanes.{Fits32}
+use Rattle.box_lanes.specs.CoarseBoxes.{Fits32}
 use Rattle.box_lanes.proofs.Vectors.{Fit}
 use Rattle.box_lanes.proofs.Eights.{read_sides}
 use Rattle.box_lanes.proofs.Coarse.{coarse_sides_are}

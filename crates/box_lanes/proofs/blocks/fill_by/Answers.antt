@@ -2,7 +2,7 @@ use Rattle.std.proofs.Common.{◌*◌, ◌≤◌, ◌++◌, [], List, length, ma
 use Rattle.std.proofs.lemmas.List.{length-map}
 use Rattle.bim_model.specs.declared.geometry.Extent.{Extent}
 use Rattle.box_lanes.specs.declared.blocks.Block.{Block}
-use Rattle.box_lanes.specs.Places.{box_at}
+use Rattle.box_lanes.specs.BoxPlaces.{box_at}
 use Rattle.box_lanes.specs.Blocks.{AreBlocks, IsBlock, padded}
 use Rattle.box_lanes.proofs.Eights.{at_place, eight_are, none_left, one_more}
 use Rattle.box_lanes.proofs.blocks.fill_by.Goals as goal

@@ -1,6 +1,6 @@
 use Rattle.std.proofs.Common.{◌≡◌, ◌*◌, ◌++◌, [], List, drop, map}
 use Rattle.box_lanes.specs.declared.blocks.Block.{Block}
-use Rattle.box_lanes.specs.Places.{box_at}
+use Rattle.box_lanes.specs.BoxPlaces.{box_at}
 use Rattle.box_lanes.specs.Blocks.{AreBlocks}
 use Rattle.box_lanes.proofs.blocks.fill_by.Given as goal
 

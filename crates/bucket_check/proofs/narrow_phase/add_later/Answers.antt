@@ -2,12 +2,12 @@ use Rattle.std.proofs.Common.{◌≡◌, ◌<◌, ◌++◌, List, All, length, s
 use Rattle.std.proofs.lemmas.List.{length-map}
 use Rattle.bim_model.specs.declared.geometry.Extent.{Extent}
 use Rattle.bim_model.specs.Keys.{subjects_of}
-use Rattle.box_lanes.specs.Places.{box_at}
-use Rattle.bucket_grid.specs.Places.{IsGridBox}
+use Rattle.box_lanes.specs.BoxPlaces.{box_at}
+use Rattle.bucket_grid.specs.ElementPlaces.{IsGridBox}
 use Rattle.bucket_grid.specs.Subjects.{IsBoxOf, AreBoxes}
 use Rattle.bucket_grid.proofs.Zips.{zip_length}
 use Rattle.bucket_check.specs.declared.pair.SetPair.{SetPair}
-use Rattle.bucket_check.specs.Sets.{number_at}
+use Rattle.bucket_check.specs.ClashSets.{number_at}
 use Rattle.bucket_check.proofs.Row.{row_is, few_later, later_inside}
 use Rattle.bucket_check.proofs.narrow_phase.add_later.Goals as goal
 

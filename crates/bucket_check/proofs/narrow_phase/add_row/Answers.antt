@@ -1,7 +1,7 @@
 use Rattle.std.proofs.Common.{ℕ, List, refl, arith}
 use Rattle.bucket_check.specs.declared.pair.SetPair.{SetPair}
 use Rattle.bucket_check.specs.Clashes.{pair_if}
-use Rattle.bucket_check.specs.Sets.{rule_at}
+use Rattle.bucket_check.specs.ClashSets.{rule_at}
 use Rattle.bucket_check.proofs.Steps.{row_more}
 use Rattle.bucket_check.proofs.narrow_phase.add_row.Goals as goal
 

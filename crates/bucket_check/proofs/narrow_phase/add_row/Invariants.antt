@@ -1,7 +1,7 @@
 use Rattle.std.proofs.Common.{◌≡◌, ◌+◌, ◌≤◌, ◌++◌, take}
 use Rattle.std.specs.List.{flat_map}
 use Rattle.bucket_check.specs.Clashes.{pair_if}
-use Rattle.bucket_check.specs.Sets.{rule_at}
+use Rattle.bucket_check.specs.ClashSets.{rule_at}
 use Rattle.bucket_check.proofs.narrow_phase.add_row.Given as goal
 
 abbrev pub invariant-loop-place : goal.invariant-loop-place

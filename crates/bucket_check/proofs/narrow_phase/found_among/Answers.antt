@@ -1,12 +1,13 @@
 use Rattle.std.proofs.Common.{◌≡◌, ◌<◌, List, [], All, length, map, refl, sym, ap, subst, ◌∙◌, arith, rules}
 use Rattle.std.specs.List.{flat_map}
+use Rattle.bim_model.specs.Distances.{in_grid_numbers}
 use Rattle.bim_model.specs.Rules.{greatest_distance}
 use Rattle.bim_model.specs.declared.geometry.Extent.{Extent}
-use Rattle.box_lanes.specs.Places.{box_at}
-use Rattle.bucket_grid.specs.Table.{upto}
+use Rattle.box_lanes.specs.BoxPlaces.{box_at}
+use Rattle.bucket_grid.specs.BucketTable.{upto}
 use Rattle.bucket_grid.proofs.Upto.{upto_more}
-use Rattle.bucket_check.specs.Clashes.{in_grid_numbers, row_by}
-use Rattle.bucket_check.specs.Sets.{rule_at}
+use Rattle.bucket_check.specs.Clashes.{row_by}
+use Rattle.bucket_check.specs.ClashSets.{rule_at}
 use Rattle.bucket_check.proofs.Steps.{no_row, fewer, stopped}
 use Rattle.bucket_check.proofs.narrow_phase.found_among.Goals as goal
 
@@ -14,7 +15,7 @@ pub refill-requires-clause-within : goal.refill-requires-clause-within
 refill-requires-clause-within g c = subst (λ (l : List Extent). All (λ n. n < length l) c.args.members.now) (sym c.boxes.ensures.boxes) c.requires.members_in
 
 pub add_later-requires-clause-greatest : goal.add_later-requires-clause-greatest
-add_later-requires-clause-greatest g c = ap in_grid_numbers (c.greatest_distance.ensures.is ∙ ap greatest_distance c.rules.ensures.same)
+add_later-requires-clause-greatest g c = c.in_grid_numbers-greatest.ensures.value ∙ ap in_grid_numbers (c.greatest_distance.ensures ∙ ap greatest_distance c.rules.ensures.same)
 
 pub loop-first-init : goal.loop-first-init
 loop-first-init g c =

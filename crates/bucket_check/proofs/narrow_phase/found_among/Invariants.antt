@@ -1,9 +1,9 @@
 use Rattle.std.proofs.Common.{◌≡◌, ◌+◌, ◌-◌, ◌*◌, ◌≤◌, length, map}
 use Rattle.std.specs.List.{flat_map}
-use Rattle.box_lanes.specs.Places.{box_at}
-use Rattle.bucket_grid.specs.Table.{upto}
+use Rattle.box_lanes.specs.BoxPlaces.{box_at}
+use Rattle.bucket_grid.specs.BucketTable.{upto}
 use Rattle.bucket_check.specs.Clashes.{row_by}
-use Rattle.bucket_check.specs.Sets.{rule_at}
+use Rattle.bucket_check.specs.ClashSets.{rule_at}
 use Rattle.bucket_check.proofs.narrow_phase.found_among.Given as goal
 
 abbrev pub invariant-loop-first : goal.invariant-loop-first

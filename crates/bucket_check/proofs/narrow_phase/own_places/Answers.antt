@@ -1,6 +1,6 @@
 use Rattle.std.proofs.Common.{◌≡◌, length, ap, arith}
 use Rattle.std.proofs.lemmas.Result.{IfOk-weaker}
-use Rattle.bucket_check.specs.Sets.{found_among, own_places}
+use Rattle.bucket_check.specs.ClashSets.{found_among, own_places}
 use Rattle.bucket_check.proofs.Steps.{members_are, all_rows, fewer_pairs}
 use Rattle.bucket_check.proofs.narrow_phase.own_places.Goals as goal
 

@@ -1,6 +1,6 @@
 use Rattle.std.proofs.Common.{length, ◌≤◌, arith}
 use Rattle.std.proofs.lemmas.Int.{ints}
-use Rattle.box_lanes.specs.Places.{nowhere}
+use Rattle.box_lanes.specs.BoxPlaces.{nowhere}
 use Rattle.bucket_grid.proofs.LyingInCells.{above_more, below_more, lie_between}
 use Rattle.bucket_grid.proofs.axis_cells.range_on.Goals as goal
 

@@ -1,5 +1,5 @@
 use Rattle.std.proofs.Common.{ap₂, refl}
-use Rattle.bucket_grid.specs.Table.{if_bucket, with_z, among}
+use Rattle.bucket_grid.specs.BucketTable.{if_bucket, with_z, among}
 use Rattle.bucket_grid.proofs.Upto.{upto_more}
 use Rattle.bucket_grid.proofs.Among.{dealt_at}
 use Rattle.bucket_grid.proofs.bucket_table.add_column.Goals as goal

@@ -1,5 +1,5 @@
 use Rattle.std.proofs.Common.{◌≡◌, ◌++◌}
-use Rattle.bucket_grid.specs.Table.{column}
+use Rattle.bucket_grid.specs.BucketTable.{column}
 use Rattle.bucket_grid.proofs.bucket_table.add_column.Given as goal
 
 abbrev pub invariant-loop-place : goal.invariant-loop-place

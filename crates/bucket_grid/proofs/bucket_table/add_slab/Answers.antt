@@ -1,5 +1,5 @@
 use Rattle.std.proofs.Common.{length, sym, ◌∙◌}
-use Rattle.bucket_grid.specs.Table.{column, with_y, among}
+use Rattle.bucket_grid.specs.BucketTable.{column, with_y, among}
 use Rattle.bucket_grid.proofs.Upto.{upto_more}
 use Rattle.bucket_grid.proofs.Among.{fewer, renamed, dealt_at, same_four}
 use Rattle.bucket_grid.proofs.bucket_table.add_slab.Goals as goal

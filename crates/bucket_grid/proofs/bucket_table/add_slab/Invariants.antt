@@ -1,5 +1,5 @@
 use Rattle.std.proofs.Common.{◌≡◌, ◌++◌, length}
-use Rattle.bucket_grid.specs.Table.{slab}
+use Rattle.bucket_grid.specs.BucketTable.{slab}
 use Rattle.bucket_grid.proofs.bucket_table.add_slab.Given as goal
 
 abbrev pub invariant-loop-place : goal.invariant-loop-place

@@ -1,5 +1,5 @@
 use Rattle.std.proofs.Common.{[], refl, sym, ◌∙◌}
-use Rattle.bucket_grid.specs.Table.{slab, with_x, among}
+use Rattle.bucket_grid.specs.BucketTable.{slab, with_x, among}
 use Rattle.bucket_grid.proofs.Upto.{upto_more}
 use Rattle.bucket_grid.proofs.Among.{fewer, renamed, dealt_at, same_four}
 use Rattle.bucket_grid.proofs.bucket_table.table_of.Goals as goal

@@ -1,5 +1,5 @@
 use Rattle.std.proofs.Common.{◌≡◌, length}
-use Rattle.bucket_grid.specs.Table.{table}
+use Rattle.bucket_grid.specs.BucketTable.{table}
 use Rattle.bucket_grid.proofs.bucket_table.table_of.Given as goal
 
 abbrev pub invariant-loop-place : goal.invariant-loop-place

@@ -4,7 +4,7 @@ use Rattle.std.proofs.lemmas.List.{take_all}
 use Rattle.bim_model.specs.declared.named_model.NamedModel.{NamedModel}
 use Rattle.bim_model.specs.Keys.{Subject, subjects_of}
 use Rattle.bucket_grid.specs.Subjects.{IsBoxOf}
-use Rattle.bucket_grid.specs.Places.{IsPlace}
+use Rattle.bucket_grid.specs.ElementPlaces.{IsPlace}
 use Rattle.bucket_grid.proofs.Zips.{subjects_more, zip_length}
 use Rattle.bucket_grid.proofs.subjects.gather.Goals as goal
 

@@ -2,7 +2,7 @@ use Rattle.std.proofs.Common.{take, All}
 use Rattle.std.specs.List.{AllZip}
 use Rattle.bim_model.specs.Keys.{subjects_of}
 use Rattle.bucket_grid.specs.Subjects.{IsBoxOf}
-use Rattle.bucket_grid.specs.Places.{IsPlace, IsGridBox}
+use Rattle.bucket_grid.specs.ElementPlaces.{IsPlace, IsGridBox}
 use Rattle.bucket_grid.proofs.subjects.gather.Given as goal
 
 abbrev pub invariant-loop-model : goal.invariant-loop-model

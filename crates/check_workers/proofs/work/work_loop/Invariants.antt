@@ -1,6 +1,6 @@
 use Rattle.book_turn.specs.Passes.{BelongsTo}
 use Rattle.book_passes.specs.Lessons.{caller_of}
-use Rattle.check_workers.specs.Working.{Teaches}
+use Rattle.check_workers.specs.WorkerTurns.{Teaches}
 use Rattle.check_workers.proofs.work.work_loop.Given as goal
 
 abbrev pub invariant-loop : goal.invariant-loop

@@ -1,6 +1,6 @@
 use Rattle.std.proofs.Common.{inl, inr, refl, subst}
 use Rattle.book_passes.specs.Lessons.{caller_of}
-use Rattle.check_workers.specs.Working.{IsFoundFor}
+use Rattle.check_workers.specs.WorkerTurns.{IsFoundFor}
 use Rattle.check_workers.proofs.Turns.{asked_teaches, brought_teaches, failed_teaches, teaches_trans, finds_none, is_told, may_bring}
 use Rattle.check_workers.proofs.work.work_one.Goals as goal
 

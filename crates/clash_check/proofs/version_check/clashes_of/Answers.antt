@@ -8,7 +8,7 @@ use Rattle.bucket_grid.specs.declared.grid.GridError.TheVariants.{TooSpread, Mem
 use Rattle.bucket_grid.specs.declared.grid.TheConstants.{MOST_MEMBERSHIPS}
 use Rattle.clash_check.specs.declared.version_fault.TheConstants.{MOST_VERSION_ELEMENTS}
 use Rattle.clash_check.specs.declared.version_fault.VersionError.{VersionError}
-use Rattle.clash_check.specs.Versions.{element_count, IsVersionCause, of_grid}
+use Rattle.clash_check.specs.VersionChecks.{element_count, IsVersionCause, of_grid}
 use Rattle.clash_check.proofs.version_check.clashes_of.Goals as goal
 
 -- few are counted of lent models, so there are few

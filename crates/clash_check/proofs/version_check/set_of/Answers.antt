@@ -1,7 +1,7 @@
 use Rattle.std.proofs.Common.{◌≡◌, ap, ◌∙◌}
 use Rattle.bucket_grid.specs.Grids.{GridValue}
 use Rattle.bucket_check.specs.declared.bucket_work.BucketWork.{BucketWork}
-use Rattle.bucket_check.specs.Sets.{SetValue, own_places}
+use Rattle.bucket_check.specs.ClashSets.{SetValue, own_places}
 use Rattle.clash_check.proofs.version_check.set_of.Goals as goal
 
 pub returns : goal.returns

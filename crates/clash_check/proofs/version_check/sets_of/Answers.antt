@@ -4,7 +4,7 @@ use Rattle.std.proofs.lemmas.List.{take_more}
 use Rattle.bucket_grid.specs.declared.bucket_table.Bucket.{Bucket}
 use Rattle.bucket_grid.specs.Grids.{GridValue}
 use Rattle.bucket_grid.proofs.Zips.{zip_push}
-use Rattle.bucket_check.specs.Sets.{SetValue, IsSetOf}
+use Rattle.bucket_check.specs.ClashSets.{SetValue, IsSetOf}
 use Rattle.clash_publish.specs.Merged.{AreSetsOf}
 use Rattle.clash_check.proofs.version_check.sets_of.Goals as goal
 

@@ -1,7 +1,7 @@
 use Rattle.std.proofs.Common.{List, true≢false, sym, subst, ◌∙◌}
 use Rattle.bucket_grid.specs.declared.bucket_table.Bucket.{Bucket}
 use Rattle.bucket_grid.specs.Grids.{GridValue}
-use Rattle.bucket_grid.specs.Table.{IsTable}
+use Rattle.bucket_grid.specs.BucketTable.{IsTable}
 use Rattle.clash_delta.specs.Carried.{IsUnmovedAt}
 use Rattle.clash_delta.proofs.Buckets.{none_unmoved}
 use Rattle.clash_delta.proofs.carrying.carried_set.Goals as goal

@@ -5,9 +5,9 @@ use Rattle.std.proofs.lemmas.Result.{IfOk-weaker}
 use Rattle.bucket_grid.specs.declared.cell.Cell.{Cell}
 use Rattle.bucket_grid.specs.declared.bucket_table.Bucket.{Bucket}
 use Rattle.bucket_grid.specs.Grids.{GridValue}
-use Rattle.bucket_grid.specs.Table.{IsTable}
+use Rattle.bucket_grid.specs.BucketTable.{IsTable}
 use Rattle.clash_delta.specs.declared.slot.Slot.{Slot}
-use Rattle.clash_delta.specs.Slots.{IsDone, IsOf}
+use Rattle.clash_delta.specs.BucketProgress.{IsDone, IsOf}
 use Rattle.clash_delta.specs.Carried.{IsCarried, IsMoved, IsReachedCell}
 use Rattle.clash_delta.proofs.Fresh.{none_all}
 use Rattle.clash_delta.proofs.Buckets.{IsFor, for_more, moved_for, rise_for, of_for, done_is_carried, below_next}

@@ -6,9 +6,9 @@ use Rattle.bim_model.specs.Keys.{subjects_of, IsBelow}
 use Rattle.bim_model.proofs.Rising.{subjects_rise}
 use Rattle.bucket_grid.specs.declared.bucket_table.Bucket.{Bucket}
 use Rattle.bucket_grid.specs.Subjects.{AreBoxes}
-use Rattle.bucket_grid.specs.Table.{IsTable}
+use Rattle.bucket_grid.specs.BucketTable.{IsTable}
 use Rattle.bucket_grid.proofs.Zips.{zip_length}
-use Rattle.clash_delta.specs.Numbers.{subjects, IsNumberBefore}
+use Rattle.clash_delta.specs.ElementNumbers.{subjects, IsNumberBefore}
 use Rattle.clash_delta.proofs.Before.{members_inside, same_members}
 use Rattle.clash_delta.proofs.carrying.is_unmoved.Goals as goal
 

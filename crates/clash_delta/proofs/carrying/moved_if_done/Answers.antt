@@ -1,11 +1,11 @@
 use Rattle.std.proofs.Common.{◌≡◌, List, get_or, is_none, sym, ap, subst, ◌∙◌}
 use Rattle.bucket_grid.specs.declared.bucket_table.Bucket.{Bucket}
 use Rattle.bucket_grid.specs.Grids.{GridValue}
-use Rattle.bucket_grid.specs.Table.{IsTable}
+use Rattle.bucket_grid.specs.BucketTable.{IsTable}
 use Rattle.bucket_check.specs.declared.bucket_work.BucketWork.{BucketWork}
-use Rattle.bucket_check.specs.Sets.{SetValue, IsUnmoved, IsSetOf}
+use Rattle.bucket_check.specs.ClashSets.{SetValue, IsUnmoved, IsSetOf}
 use Rattle.clash_delta.specs.declared.slot.Slot.{Slot}
-use Rattle.clash_delta.specs.Places.{Rise}
+use Rattle.clash_delta.specs.BucketPlaces.{Rise}
 use Rattle.clash_delta.proofs.Buckets.{old_right, is_moved, isnt_carried}
 use Rattle.clash_delta.proofs.carrying.moved_if_done.Goals as goal
 

@@ -1,6 +1,6 @@
 use Rattle.std.proofs.Common.{◌<◌, List, length, get_or, refl, sym, ap, subst, arith, ◌∙◌}
 use Rattle.bim_model.specs.declared.named_model.NamedModel.{NamedModel}
-use Rattle.bucket_grid.specs.Places.{IsPlace}
+use Rattle.bucket_grid.specs.ElementPlaces.{IsPlace}
 use Rattle.bucket_grid.proofs.Zips.{zip_length}
 use Rattle.bucket_grid.proofs.Found.{place_at}
 use Rattle.clash_delta.proofs.former_numbers.name_of.Goals as goal

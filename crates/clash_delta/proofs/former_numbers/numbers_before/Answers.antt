@@ -4,10 +4,10 @@ use Rattle.std.proofs.lemmas.List.{take_all}
 use Rattle.bim_model.specs.declared.named_model.NamedModel.{NamedModel}
 use Rattle.bim_model.specs.Keys.{Subject, subjects_of, IsBelow}
 use Rattle.bim_model.proofs.Rising.{subjects_rise}
-use Rattle.bucket_grid.specs.Places.{IsPlace}
+use Rattle.bucket_grid.specs.ElementPlaces.{IsPlace}
 use Rattle.bucket_grid.specs.Subjects.{nobody}
 use Rattle.bucket_grid.proofs.Zips.{zip_length}
-use Rattle.clash_delta.specs.Numbers.{subjects, subject_of, IsNumberBefore}
+use Rattle.clash_delta.specs.ElementNumbers.{subjects, subject_of, IsNumberBefore}
 use Rattle.clash_delta.proofs.Before.{numbers_more, all_below_next}
 use Rattle.clash_delta.proofs.former_numbers.numbers_before.Goals as goal
 

@@ -1,5 +1,5 @@
 use Rattle.std.proofs.Common.{◌≡◌, ◌-◌, drop, length, reverse}
-use Rattle.box_lanes.specs.Places.{places_from}
+use Rattle.box_lanes.specs.BoxPlaces.{places_from}
 use Rattle.clash_delta.proofs.Undone.{undone}
 use Rattle.clash_delta.proofs.progress.undone_places.Given as goal
 

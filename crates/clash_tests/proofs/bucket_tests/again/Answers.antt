@@ -5,7 +5,7 @@ use Rattle.bucket_grid.specs.declared.cell.Cell.{Cell}
 use Rattle.bucket_grid.specs.Cells.{members}
 use Rattle.bucket_grid.specs.Grids.{GridValue}
 use Rattle.bucket_check.specs.declared.bucket_work.BucketWork.{BucketWork}
-use Rattle.bucket_check.specs.Sets.{IsSame, subjects_at, IsUnmoved}
+use Rattle.bucket_check.specs.ClashSets.{IsSame, subjects_at, IsUnmoved}
 use Rattle.clash_tests.proofs.bucket_tests.again.Goals as goal
 
 all_same : (xs : List Subject) → AllZip IsSame xs xs

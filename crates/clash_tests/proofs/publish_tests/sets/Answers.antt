@@ -5,7 +5,7 @@ use Rattle.bucket_grid.specs.declared.bucket_table.Bucket.{Bucket}
 use Rattle.bucket_grid.specs.Grids.{GridValue}
 use Rattle.bucket_grid.proofs.Zips.{zip_push}
 use Rattle.bucket_check.specs.declared.bucket_work.BucketWork.{BucketWork}
-use Rattle.bucket_check.specs.Sets.{SetValue, IsSetOf, own_places}
+use Rattle.bucket_check.specs.ClashSets.{SetValue, IsSetOf, own_places}
 use Rattle.clash_publish.specs.Merged.{AreSetsOf}
 use Rattle.clash_tests.proofs.publish_tests.sets.Goals as goal
 

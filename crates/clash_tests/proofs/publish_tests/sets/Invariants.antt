@@ -1,7 +1,7 @@
 use Rattle.std.proofs.Common.{take}
 use Rattle.std.specs.List.{AllZip}
 use Rattle.bucket_grid.specs.declared.bucket_table.Bucket.{Bucket}
-use Rattle.bucket_check.specs.Sets.{SetValue, IsSetOf}
+use Rattle.bucket_check.specs.ClashSets.{SetValue, IsSetOf}
 use Rattle.clash_tests.proofs.publish_tests.sets.Given as goal
 
 abbrev pub invariant-loop-bucket : goal.invariant-loop-bucket

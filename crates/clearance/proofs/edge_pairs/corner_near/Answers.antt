@@ -2,7 +2,7 @@ use Rattle.std.proofs.Common.{◌≡◌, ◌↔◌, inl, inr, ℕ, ℤ, pos, ◌
 use Rattle.std.proofs.lemmas.Int.{ints}
 use mir.Syntax.{w64}
 use Rattle.exact_arith.specs.Space.{Vector, minus, dot_of}
-use Rattle.tri_exact.specs.Places.{at}
+use Rattle.tri_exact.specs.GridVectors.{at}
 use Rattle.tri_exact.specs.Edges.{Beside, Crosses}
 use Rattle.tri_exact.proofs.Choice.{not_both}
 use Rattle.exact_arith.proofs.Ranges.{Kept, value_kept, product_kept, difference_kept, kept_64, in_64, fits_64, renamed, at_most, above, zero_kept, natural_kept_64, bounded, same_64}

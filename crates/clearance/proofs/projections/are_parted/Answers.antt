@@ -1,5 +1,5 @@
 use Rattle.exact_arith.specs.Space.{dot_of}
-use Rattle.tri_exact.specs.Places.{at, straight}
+use Rattle.tri_exact.specs.GridVectors.{at, straight}
 use Rattle.clearance.proofs.PartedLists.{first_below, second_below, as_seen}
 use Rattle.clearance.proofs.projections.are_parted.Goals as goal
 

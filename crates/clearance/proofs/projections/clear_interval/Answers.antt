@@ -1,6 +1,6 @@
 use Rattle.std.proofs.Common.{◌≤◌, length, arith}
 use Rattle.std.proofs.lemmas.List.Elements.{All-more}
-use Rattle.tri_exact.specs.Places.{at, straight}
+use Rattle.tri_exact.specs.GridVectors.{at, straight}
 use Rattle.bim_model.specs.declared.geometry.Triangle.{Triangle}
 use Rattle.clearance.specs.Projections.{ProjectsIn}
 use Rattle.clearance.proofs.Lists.{finished}

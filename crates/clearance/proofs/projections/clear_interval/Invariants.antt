@@ -1,5 +1,5 @@
 use Rattle.std.proofs.Common.{take}
-use Rattle.tri_exact.specs.Places.{at, straight}
+use Rattle.tri_exact.specs.GridVectors.{at, straight}
 use Rattle.clearance.specs.Projections.{IsInterval, AllProjectIn}
 use Rattle.clearance.proofs.projections.clear_interval.Given as goal
 

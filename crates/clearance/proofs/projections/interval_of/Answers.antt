@@ -1,6 +1,6 @@
 use Rattle.std.proofs.Common.{◌≡◌, ◌∙◌, ap, ℤ, ◌≤ℤ◌, ◌≤◌, unsigned_abs, subst, sym}
 use Rattle.exact_arith.specs.Space.{Vector, Face, dot_of}
-use Rattle.tri_exact.specs.Places.{at, straight}
+use Rattle.tri_exact.specs.GridVectors.{at, straight}
 use Rattle.exact_arith.proofs.Ranges.{in_128, same_128}
 use Rattle.clearance.specs.Projections.{InInterval}
 use Rattle.clearance.proofs.projections.interval_of.Goals as goal

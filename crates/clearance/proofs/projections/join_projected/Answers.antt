@@ -1,5 +1,5 @@
 use Rattle.bim_model.specs.Points.{shape_of}
-use Rattle.tri_exact.specs.Places.{at, straight}
+use Rattle.tri_exact.specs.GridVectors.{at, straight}
 use Rattle.clearance.proofs.OffBoxes.{off_far}
 use Rattle.clearance.proofs.PartedLists.{lengthened}
 use Rattle.clearance.proofs.projections.join_projected.Goals as goal

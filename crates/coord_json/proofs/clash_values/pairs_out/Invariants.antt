@@ -1,6 +1,6 @@
 use Rattle.std.proofs.Common.{◌≡◌, take}
 use Rattle.serde_json.specs.View.{items_view}
-use Rattle.coord_json.specs.Clashes.{pair_items}
+use Rattle.coord_json.specs.ClashTrees.{pair_items}
 use Rattle.coord_json.proofs.clash_values.pairs_out.Given as goal
 
 abbrev pub invariant-loop-pair : goal.invariant-loop-pair

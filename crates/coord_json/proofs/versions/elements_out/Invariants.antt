@@ -1,6 +1,6 @@
 use Rattle.std.proofs.Common.{take}
 use Rattle.serde_json.specs.View.{items_view}
-use Rattle.coord_json.specs.Versions.{AreElementTrees}
+use Rattle.coord_json.specs.VersionTrees.{AreElementTrees}
 use Rattle.coord_json.proofs.versions.elements_out.Given as goal
 
 abbrev pub invariant-loop-element : goal.invariant-loop-element

@@ -1,7 +1,7 @@
 use Rattle.std.proofs.Common.{◌≡◌, ◌∙◌, ap, sym, ℤ, Bool, not, pos, int_lt, w64, FitsSigned, rules}
 use Rattle.std.proofs.lemmas.Int.{to_z-of_z}
 use Rattle.exact_arith.proofs.Ranges.{in_64}
-use Rattle.ear_cut.specs.Views.{holds}
+use Rattle.ear_cut.specs.PolygonViews.{holds}
 use Rattle.ear_cut.proofs.Parts.{fails, goes_on}
 use Rattle.ear_cut.proofs.polygon_view.holds.Goals as goal
 

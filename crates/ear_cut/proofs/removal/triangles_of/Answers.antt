@@ -1,7 +1,7 @@
 use Rattle.std.proofs.Common.{◌≡◌, ◌∙◌, ◌<◌, ◌≤◌, ap, sym, subst, ◌-◌, length, List, Option, Some, None, IfOk, MatchOption, arith}
 use Rattle.bim_model.specs.declared.geometry.Point.{Point}
 use Rattle.ear_cut.specs.declared.corners.Corner.{Corner}
-use Rattle.ear_cut.specs.Views.{view_of}
+use Rattle.ear_cut.specs.PolygonViews.{view_of}
 use Rattle.ear_cut.specs.declared.ears.Ear.{Ear}
 use Rattle.ear_cut.specs.Corners.{AreInGrid, corners_from}
 use Rattle.ear_cut.specs.Removal.{cut_by}

@@ -1,7 +1,7 @@
 use Rattle.std.proofs.Common.{Any}
 use Rattle.std.proofs.lemmas.Bool.{MatchBool-at_true, MatchBool-at_false}
 use Rattle.faceset.specs.Indexes.{PointsNowhere}
-use Rattle.faceset.specs.Sets.{outline}
+use Rattle.faceset.specs.FaceSets.{outline}
 use Rattle.p21_values.proofs.Turns.{turn, ended}
 use Rattle.faceset.proofs.Named.{mapped_more, mapped_here, mapped_never}
 use Rattle.faceset.proofs.bad.has_bad_face.Goals as goal

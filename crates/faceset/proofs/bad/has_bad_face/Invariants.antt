@@ -1,6 +1,6 @@
 use Rattle.std.proofs.Common.{map, All, Any}
 use Rattle.faceset.specs.Indexes.{PointsNowhere}
-use Rattle.faceset.specs.Sets.{outline}
+use Rattle.faceset.specs.FaceSets.{outline}
 use Rattle.p21_values.specs.Attributes.{led_to}
 use Rattle.faceset.specs.Reaches.{AreReaches}
 use Rattle.faceset.proofs.bad.has_bad_face.Given as goal

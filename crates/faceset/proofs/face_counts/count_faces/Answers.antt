@@ -1,7 +1,7 @@
 use Rattle.std.proofs.Common.{arith, sum_by, List, ap, ◌∙◌}
 use Rattle.p21_values.specs.declared.value.Value21.{Value21}
 use Rattle.p21_values.specs.Attributes.{led_to}
-use Rattle.faceset.specs.Sets.{face_count}
+use Rattle.faceset.specs.FaceSets.{face_count}
 use Rattle.p21_values.proofs.Turns.{so_far, turn, ended}
 use Rattle.faceset.proofs.Named.{summed_more, summed_front}
 use Rattle.faceset.proofs.face_counts.count_faces.Goals as goal

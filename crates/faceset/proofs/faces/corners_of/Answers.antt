@@ -1,7 +1,7 @@
 use Rattle.std.proofs.Common.{option_copied, List, subst}
 use Rattle.p21_values.specs.declared.value.Value21.{Value21}
 use Rattle.bim_model.specs.Points.{IsGridPoint}
-use Rattle.faceset.specs.Sets.{AreCorners}
+use Rattle.faceset.specs.FaceSets.{AreCorners}
 use Rattle.p21_values.proofs.Turns.{ended}
 use Rattle.faceset.proofs.Corners.{corners_more}
 use Rattle.faceset.proofs.faces.corners_of.Goals as goal

@@ -1,6 +1,6 @@
 use Rattle.std.proofs.Common.{All, option_copied}
 use Rattle.bim_model.specs.Points.{IsGridPoint}
-use Rattle.faceset.specs.Sets.{AreCorners}
+use Rattle.faceset.specs.FaceSets.{AreCorners}
 use Rattle.faceset.proofs.faces.corners_of.Given as goal
 
 abbrev pub invariant-loop-value : goal.invariant-loop-value

@@ -1,5 +1,5 @@
 use Rattle.std.proofs.Common.{ℕ, ◌≤◌, length, option_copied, subst}
-use Rattle.faceset.specs.Sets.{most_corners}
+use Rattle.faceset.specs.FaceSets.{most_corners}
 use Rattle.faceset.proofs.Corners.{corners_long, corners_few, corners_count}
 use Rattle.faceset.proofs.faces.cut_face.Goals as goal
 

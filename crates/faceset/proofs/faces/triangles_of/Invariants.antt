@@ -1,5 +1,5 @@
 use Rattle.std.proofs.Common.{◌≡◌, map, take}
-use Rattle.faceset.specs.Sets.{triangle_of}
+use Rattle.faceset.specs.FaceSets.{triangle_of}
 use Rattle.faceset.proofs.faces.triangles_of.Given as goal
 
 abbrev pub invariant-loop-ear : goal.invariant-loop-ear

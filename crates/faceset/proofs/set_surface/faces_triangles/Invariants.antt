@@ -1,5 +1,5 @@
 use Rattle.std.proofs.Common.{◌≡◌, length, sum_by, option_copied}
-use Rattle.faceset.specs.Sets.{Joined, IsCut, face_count}
+use Rattle.faceset.specs.FaceSets.{Joined, IsCut, face_count}
 use Rattle.p21_values.specs.Attributes.{led_to}
 use Rattle.faceset.proofs.set_surface.faces_triangles.Given as goal
 

@@ -1,5 +1,5 @@
 use Rattle.std.proofs.Common.{sym, ◌∙◌, option_copied}
-use Rattle.faceset.specs.Sets.{numbering}
+use Rattle.faceset.specs.FaceSets.{numbering}
 use Rattle.faceset.proofs.Placed.{shown_numbers}
 use Rattle.faceset.proofs.SetParts.{polygonal_made, polygonal_none, polygonal_count, flat_made, flat_none, flat_count}
 use Rattle.faceset.proofs.set_surface.set_triangles.Goals as goal

@@ -1,5 +1,5 @@
 use Rattle.std.proofs.Common.{rules, arith, ◌≡◌, true, option_copied}
-use Rattle.faceset.specs.Sets.{is_polygonal, numbering}
+use Rattle.faceset.specs.FaceSets.{is_polygonal, numbering}
 use Rattle.faceset.proofs.Placed.{shown_numbers}
 use Rattle.faceset.proofs.StuckFaces.{set_least_in}
 use Rattle.faceset.proofs.stuck.least_stuck.Goals as goal

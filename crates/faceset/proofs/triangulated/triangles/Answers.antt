@@ -1,6 +1,6 @@
 use Rattle.std.proofs.Common.{option_copied, List, subst}
 use Rattle.p21_values.specs.declared.value.Value21.{Value21}
-use Rattle.faceset.specs.Sets.{IsTriangle, AreTriangles}
+use Rattle.faceset.specs.FaceSets.{IsTriangle, AreTriangles}
 use Rattle.p21_values.proofs.Turns.{ended}
 use Rattle.faceset.proofs.Zips.{zip_push}
 use Rattle.faceset.proofs.triangulated.triangles.Goals as goal

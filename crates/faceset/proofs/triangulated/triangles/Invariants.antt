@@ -1,5 +1,5 @@
 use Rattle.std.proofs.Common.{option_copied}
-use Rattle.faceset.specs.Sets.{AreTriangles}
+use Rattle.faceset.specs.FaceSets.{AreTriangles}
 use Rattle.faceset.proofs.triangulated.triangles.Given as goal
 
 abbrev pub invariant-loop-row : goal.invariant-loop-row

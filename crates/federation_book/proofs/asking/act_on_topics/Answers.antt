@@ -1,5 +1,5 @@
 use Rattle.book_history.specs.declared.requests.BookRequest.TheVariants as request
-use Rattle.federation_book.specs.Kept.{settings_of}
+use Rattle.federation_book.specs.KeptProjects.{settings_of}
 use Rattle.federation_book.proofs.Acting.{done_as, told_as}
 use Rattle.federation_book.proofs.Subjects.{topics_only}
 use Rattle.federation_book.proofs.asking.act_on_topics.Goals as goal

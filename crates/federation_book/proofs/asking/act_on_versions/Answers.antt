@@ -1,7 +1,7 @@
 use Rattle.std.proofs.Common.{◌∙◌, refl, sym, ap}
 use Rattle.book_history.specs.declared.changes.Change.TheVariants as change
 use Rattle.book_history.specs.Requests.{in_project, changed, removed, version_read, clashes_read, outcome_of}
-use Rattle.federation_book.specs.Kept.{settings_of}
+use Rattle.federation_book.specs.KeptProjects.{settings_of}
 use Rattle.federation_book.proofs.Acting.{number_is, number_there, reply_is, added_is, asked_is, done_of}
 use Rattle.federation_book.proofs.Answering.{read_adds, clashes_add}
 use Rattle.federation_book.proofs.Subjects.{versions_only}

@@ -1,7 +1,7 @@
 use Rattle.std.proofs.Common.{length, refl, sym, ap, subst}
 use Rattle.book_history.specs.Requests.{order_for, all_orders, finished, outcome_of}
 use Rattle.book_history.specs.Legal.{IsLegal}
-use Rattle.federation_book.specs.Kept.{settings_of}
+use Rattle.federation_book.specs.KeptProjects.{settings_of}
 use Rattle.federation_book.proofs.Acting.{reply_is, added_is, asked_is, done_of}
 use Rattle.federation_book.proofs.Answering.{work_adds}
 use Rattle.federation_book.proofs.Subjects.{work_only}

@@ -5,7 +5,7 @@ use Rattle.book_history.specs.Versions.{version_at}
 use Rattle.book_history.specs.History.{state_of, content_of}
 use Rattle.book_history.specs.Refusals.{project_of}
 use Rattle.book_history.specs.Requests.{clash_noted}
-use Rattle.federation_book.specs.Kept.{settings_of}
+use Rattle.federation_book.specs.KeptProjects.{settings_of}
 use Rattle.federation_book.proofs.Clashing.{not_ready, ready, then_noted, still_done}
 use Rattle.federation_book.proofs.Finding.{none_done, one_done, some_done}
 use Rattle.federation_book.proofs.clash_topics.clash_topic.Goals as goal

@@ -3,7 +3,7 @@ use Rattle.book_history.specs.declared.changes.Change.TheVariants.{ClashTopic}
 use Rattle.book_history.specs.Projects.{clash_at}
 use Rattle.book_history.specs.History.{version_of}
 use Rattle.book_history.specs.Requests.{noted}
-use Rattle.federation_book.specs.Kept.{settings_of}
+use Rattle.federation_book.specs.KeptProjects.{settings_of}
 use Rattle.federation_book.proofs.Clashing.{no_clash_done, clash_done}
 use Rattle.federation_book.proofs.clash_topics.note_clash.Goals as goal
 

@@ -1,7 +1,7 @@
 use Rattle.std.proofs.Common.{length, Some, None, refl, sym, ap, ◌∙◌}
 use Rattle.bcf_topics.specs.Comments.{comments_on}
 use Rattle.book_topics.specs.Boards.{BoardState}
-use Rattle.book_topics.specs.Named.{topic_named}
+use Rattle.book_topics.specs.TopicIdentifiers.{topic_named}
 use Rattle.book_history.specs.declared.book_fault.BookFault.TheVariants.{NoProject, NoTopic}
 use Rattle.book_history.specs.declared.replies.ReplyBody.TheVariants as reply
 use Rattle.book_history.specs.History.{board_of}

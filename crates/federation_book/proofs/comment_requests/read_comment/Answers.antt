@@ -1,6 +1,6 @@
 use Rattle.std.proofs.Common.{length, Some, None, refl, sym, ap, ◌∙◌}
 use Rattle.book_topics.specs.Boards.{BoardState, comment_at}
-use Rattle.book_topics.specs.Named.{topic_named, comment_named}
+use Rattle.book_topics.specs.TopicIdentifiers.{topic_named, comment_named}
 use Rattle.book_history.specs.declared.book_fault.BookFault.TheVariants.{NoProject, NoTopic, NoComment}
 use Rattle.book_history.specs.declared.replies.ReplyBody.TheVariants as reply
 use Rattle.book_history.specs.History.{board_of}

@@ -8,7 +8,7 @@ use Rattle.book_history.specs.History.{state_of}
 use Rattle.book_history.specs.Refusals.{first_of, full, no_model}
 use Rattle.book_history.specs.Requests.{Accepted, removed, entry_of}
 use Rattle.book_history.proofs.States.{within}
-use Rattle.federation_book.specs.Kept.{settings_of}
+use Rattle.federation_book.specs.KeptProjects.{settings_of}
 use Rattle.federation_book.proofs.Advancing.{last_is}
 use Rattle.federation_book.proofs.Outcomes.{is_refused, is_accepted, refused_reply, refused_adds, accepted_reply}
 use Rattle.federation_book.proofs.Changing.{remove_next, state_then, whole_then, settled_adds, settled_entry, behind_none, has_none, has_one}

@@ -8,7 +8,7 @@ use Rattle.book_history.specs.History.{state_of}
 use Rattle.book_history.specs.Refusals.{full}
 use Rattle.book_history.specs.Requests.{Accepted, changed, entry_of}
 use Rattle.book_history.proofs.States.{within}
-use Rattle.federation_book.specs.Kept.{settings_of}
+use Rattle.federation_book.specs.KeptProjects.{settings_of}
 use Rattle.federation_book.proofs.Advancing.{last_is}
 use Rattle.federation_book.proofs.Outcomes.{is_accepted, accepted_reply}
 use Rattle.federation_book.proofs.Changing.{upload_next, state_then, told_then, settled_entry}

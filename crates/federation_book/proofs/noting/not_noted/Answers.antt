@@ -2,7 +2,7 @@ use Rattle.std.proofs.Common.{◌≡◌, ◌∙◌, sym, ap, arith}
 use Rattle.book_history.specs.History.{state_of, left_in}
 use Rattle.book_history.specs.Refusals.{too_many, store_full}
 use Rattle.book_history.specs.Weights.{told, text_of}
-use Rattle.federation_book.specs.Kept.{settings_of}
+use Rattle.federation_book.specs.KeptProjects.{settings_of}
 use Rattle.federation_book.proofs.Noted.{behind_some, behind_all, no_triangles, left_stays}
 use Rattle.federation_book.proofs.noting.not_noted.Goals as goal
 

@@ -10,7 +10,7 @@ use Rattle.book_history.specs.History.{state_of}
 use Rattle.book_history.specs.Requests.{in_project, clashes_read, body_of}
 use Rattle.federation_book.specs.declared.project.Project.{Project}
 use Rattle.federation_book.specs.declared.state.State.{State}
-use Rattle.federation_book.specs.Kept.{KeepsProject}
+use Rattle.federation_book.specs.KeptProjects.{KeepsProject}
 use Rattle.federation_book.proofs.Accepting.{kept_asked}
 use Rattle.federation_book.proofs.Reading.{newest_small, not_refused, live_place, placed, placed_there, keeps_same}
 use Rattle.federation_book.proofs.Taking.{kept_numbered}

@@ -3,7 +3,7 @@ use Rattle.book_history.specs.declared.changes.Change.TheVariants as change
 use Rattle.book_history.specs.declared.book_fault.BookFault.TheVariants.{NoProject}
 use Rattle.book_history.specs.Refusals.{project_of}
 use Rattle.book_history.specs.Requests.{noted}
-use Rattle.federation_book.specs.Kept.{settings_of}
+use Rattle.federation_book.specs.KeptProjects.{settings_of}
 use Rattle.federation_book.proofs.Finding.{none_done, some_done}
 use Rattle.federation_book.proofs.topic_requests.post_topic.Goals as goal
 

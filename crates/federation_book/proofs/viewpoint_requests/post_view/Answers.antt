@@ -1,13 +1,13 @@
 use Rattle.std.proofs.Common.{length, Some, None, IsSome, refl, sym, subst}
 use Rattle.book_topics.specs.Boards.{BoardState, topic_at}
-use Rattle.book_topics.specs.Named.{topic_named}
+use Rattle.book_topics.specs.TopicIdentifiers.{topic_named}
 use Rattle.book_history.specs.declared.changes.Change.TheVariants as change
 use Rattle.book_history.specs.declared.book_fault.BookFault.TheVariants.{NoProject, NoTopic}
 use Rattle.book_history.specs.declared.replies.ReplyBody.TheVariants as reply
 use Rattle.book_history.specs.History.{board_of}
 use Rattle.book_history.specs.Refusals.{project_of}
 use Rattle.book_history.specs.Requests.{noted, in_topic}
-use Rattle.federation_book.specs.Kept.{settings_of}
+use Rattle.federation_book.specs.KeptProjects.{settings_of}
 use Rattle.federation_book.proofs.Finding.{none_done, one_done, some_done, topic_is}
 use Rattle.federation_book.proofs.viewpoint_requests.post_view.Goals as goal
 

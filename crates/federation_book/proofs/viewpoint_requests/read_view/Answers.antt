@@ -1,7 +1,7 @@
 use Rattle.std.proofs.Common.{length, Some, None, option_map, refl, sym, ap, ◌∙◌}
-use Rattle.bcf_viewpoints.specs.Views.{viewpoint}
+use Rattle.bcf_viewpoints.specs.Viewpoints.{viewpoint}
 use Rattle.book_topics.specs.Boards.{BoardState, view_at}
-use Rattle.book_topics.specs.Named.{topic_named, view_named}
+use Rattle.book_topics.specs.TopicIdentifiers.{topic_named, view_named}
 use Rattle.book_history.specs.declared.book_fault.BookFault.TheVariants.{NoProject, NoTopic, NoViewpoint}
 use Rattle.book_history.specs.declared.replies.ReplyBody.TheVariants as reply
 use Rattle.book_history.specs.History.{board_of}

@@ -5,7 +5,7 @@ use Rattle.bucket_grid.specs.declared.cell.Cell.{Cell}
 use Rattle.bucket_grid.specs.Cells.{IsBucket}
 use Rattle.bucket_grid.specs.Grids.{GridValue}
 use Rattle.bucket_check.specs.declared.bucket_work.BucketWork.{BucketWork}
-use Rattle.bucket_check.specs.Sets.{SetValue}
+use Rattle.bucket_check.specs.ClashSets.{SetValue}
 use Rattle.book_turn.specs.Entries.{listed}
 use Rattle.book_history.specs.declared.changes.Change.TheVariants.{BucketDone}
 use Rattle.book_history.specs.declared.changes.Entry.{Entry}
@@ -19,7 +19,7 @@ use Rattle.book_history.specs.Refusals.{dropped}
 use Rattle.book_history.specs.Requests.{finished, body_of, entry_by, entry_of}
 use Rattle.federation_book.specs.declared.project.Project.{Project}
 use Rattle.federation_book.specs.declared.state.State.{State}
-use Rattle.federation_book.specs.Kept.{KeepsProject, settings_of}
+use Rattle.federation_book.specs.KeptProjects.{KeepsProject, settings_of}
 use Rattle.federation_book.proofs.Accepting.{kept_after}
 use Rattle.federation_book.proofs.Reading.{newest_small, not_dropped, live_place, placed, placed_there}
 use Rattle.federation_book.proofs.Taking.{kept_numbered}

@@ -5,7 +5,7 @@ use Rattle.std.proofs.lemmas.Nat.{mod_below}
 use Rattle.book_history.specs.History.{state_of, live_of, left_in, left_all, project_numbers}
 use Rattle.book_history.specs.Requests.{orders_of, all_orders}
 use Rattle.book_history.specs.Weights.{told}
-use Rattle.federation_book.specs.Kept.{KeepsProject}
+use Rattle.federation_book.specs.KeptProjects.{KeepsProject}
 use Rattle.federation_book.proofs.Counting.{told_under}
 use Rattle.federation_book.proofs.Taking.{numbers_length, kept_here, below_told, orders_kept, few_kept, all_length, left_one, left_behind, order_behind, order_own, none_to_give, one_to_give}
 use Rattle.federation_book.proofs.working.take_work.Goals as goal

@@ -1,6 +1,6 @@
 use Rattle.std.proofs.Common.{subst, sym}
 use Rattle.http_frame.specs.declared.stage.Stage.{Stage}
-use Rattle.http_frame.specs.Stages.{Keeps, IsSafe}
+use Rattle.http_frame.specs.FramerStages.{Keeps, IsSafe}
 use Rattle.http_frame.proofs.Keeping.{keeps_same, head_keeps, head_safe}
 use Rattle.http_frame.proofs.framer.compact_at.Goals as goal
 

@@ -1,5 +1,5 @@
 use Rattle.std.proofs.Common.{sym, ◌∙◌}
-use Rattle.http_frame.specs.Stages.{Keeps}
+use Rattle.http_frame.specs.FramerStages.{Keeps}
 use Rattle.http_frame.proofs.Keeping.{grows, failed_grows, safe_grows, safe_items, keeps_items, on_err}
 use Rattle.http_frame.proofs.framer.grow.Goals as goal
 

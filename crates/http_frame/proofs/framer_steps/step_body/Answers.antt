@@ -1,7 +1,7 @@
 use Rattle.std.proofs.Common.{subst}
 use Rattle.http_frame.specs.declared.stage.Awaited.{Awaited}
 use Rattle.http_frame.specs.declared.stage.Awaited.TheVariants.{Sized, Chunked, Whole}
-use Rattle.http_frame.specs.Stages.{IsFilled}
+use Rattle.http_frame.specs.FramerStages.{IsFilled}
 use Rattle.http_frame.proofs.Standing.{continue_step, body_steps}
 use Rattle.http_frame.proofs.framer_steps.step_body.Goals as goal
 

@@ -1,6 +1,6 @@
 use Rattle.std.proofs.Common.{List, map, Some, ap, ◌∙◌}
 use Rattle.p21_values.specs.declared.value.Value21.{Value21}
-use Rattle.p21_values.specs.Looking.{look}
+use Rattle.p21_values.specs.InstanceLookup.{look}
 use Rattle.p21_values.proofs.Turns.{ended}
 use Rattle.ifc_elements.specs.Items.{bodies_among}
 use Rattle.ifc_elements.proofs.BodiesCollected.{bodies_more}

@@ -1,5 +1,5 @@
 use Rattle.std.proofs.Common.{◌≡◌, map, Some}
-use Rattle.p21_values.specs.Looking.{look}
+use Rattle.p21_values.specs.InstanceLookup.{look}
 use Rattle.ifc_elements.specs.Items.{bodies_among}
 use Rattle.ifc_elements.proofs.body_items.bodies_among.Given as goal
 

@@ -2,7 +2,7 @@ use Rattle.std.proofs.Common.{ℕ, List, take}
 use Rattle.std.specs.List.{AllZip}
 use Rattle.placement.specs.Placed.{AreFrames, frame_in}
 use Rattle.ifc_elements.specs.Sound.{AreSets}
-use Rattle.ifc_elements.specs.Making.{IsNearElement}
+use Rattle.ifc_elements.specs.ElementReadiness.{IsNearElement}
 use Rattle.ifc_elements.proofs.model_elements.elements_of.Given as goal
 
 abbrev pub invariant-loop-id : goal.invariant-loop-id

@@ -1,6 +1,6 @@
 use Rattle.std.proofs.Common.{◌≡◌, List, length, sum_by, sym, subst}
 use Rattle.bim_model.specs.declared.geometry.Triangle.{Triangle}
-use Rattle.faceset.specs.Sets.{Joined}
+use Rattle.faceset.specs.FaceSets.{Joined}
 use Rattle.ifc_elements.specs.Items.{body_items, item_count}
 use Rattle.ifc_elements.specs.Surfaces.{ItemSurface}
 use Rattle.ifc_elements.proofs.CasesOfAnswers.{of_none, of_some}

@@ -2,7 +2,7 @@ use Rattle.std.proofs.Common.{List, length, subst}
 use Rattle.p21_values.specs.declared.value.Value21.{Value21}
 use Rattle.p21_values.specs.Attributes.{led_to}
 use Rattle.p21_values.proofs.Turns.{turn, ended}
-use Rattle.faceset.specs.Sets.{Joined}
+use Rattle.faceset.specs.FaceSets.{Joined}
 use Rattle.ifc_elements.specs.Sound.{ReadyItem, KeptItem, Adds}
 use Rattle.std.proofs.lemmas.Bool.{MatchBool-at_true, MatchBool-at_false}
 use Rattle.ifc_elements.proofs.TrianglesAdded.{adds_more, unready_there}

@@ -1,5 +1,5 @@
 use Rattle.std.proofs.Common.{ℕ, List}
-use Rattle.faceset.specs.Sets.{Joined}
+use Rattle.faceset.specs.FaceSets.{Joined}
 use Rattle.p21_values.specs.Attributes.{led_to}
 use Rattle.ifc_elements.specs.Sound.{AreSets, Adds, KeptItem}
 use Rattle.ifc_elements.proofs.surface.add_items.Given as goal

@@ -3,7 +3,7 @@ use Rattle.bim_model.specs.declared.upload.Mode.{Mode}
 use Rattle.bim_model.specs.Boxes.{corners_of}
 use Rattle.bim_model.specs.Models.{IsInReach}
 use Rattle.ifc_units.specs.declared.scale.Scale.{Scale}
-use Rattle.faceset.specs.Sets.{Joined}
+use Rattle.faceset.specs.FaceSets.{Joined}
 use Rattle.p21_values.specs.Attributes.{led_to}
 use Rattle.ifc_elements.specs.Sound.{AreSets, Adds, KeptSet}
 use Rattle.ifc_elements.proofs.surface.add_sets.Given as goal

@@ -1,6 +1,6 @@
 use Rattle.std.proofs.Common.{ℕ, List, take, flat_map}
 use Rattle.p21_values.specs.declared.value.Instance.{Instance}
-use Rattle.faceset.specs.Sets.{Joined}
+use Rattle.faceset.specs.FaceSets.{Joined}
 use Rattle.ifc_elements.specs.Items.{items_of}
 use Rattle.ifc_elements.specs.Finding.{Number}
 use Rattle.ifc_elements.specs.Sound.{AreSets, KeptItem}

@@ -1,7 +1,7 @@
 use Rattle.std.proofs.Common.{map, ap, ◌∙◌}
 use Rattle.std.proofs.lemmas.List.{map_push}
 use Rattle.p21_values.proofs.Turns.{ended}
-use Rattle.ifc_schema.specs.Bodies.{has_body}
+use Rattle.ifc_schema.specs.BodyRepresentations.{has_body}
 use Rattle.ifc_schema.proofs.body.bodied_of.Goals as goal
 
 pub loop-instance-preserved : goal.loop-instance-preserved

@@ -1,5 +1,5 @@
 use Rattle.std.proofs.Common.{◌≡◌, map}
-use Rattle.ifc_schema.specs.Bodies.{has_body}
+use Rattle.ifc_schema.specs.BodyRepresentations.{has_body}
 use Rattle.ifc_schema.proofs.body.bodied_of.Given as goal
 
 abbrev pub invariant-loop-instance : goal.invariant-loop-instance

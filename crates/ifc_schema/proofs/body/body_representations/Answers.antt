@@ -1,7 +1,7 @@
 use Rattle.std.proofs.Common.{map, ap, ◌∙◌}
 use Rattle.std.proofs.lemmas.List.{map_push}
 use Rattle.p21_values.proofs.Turns.{ended}
-use Rattle.ifc_schema.specs.Bodies.{is_body_representation}
+use Rattle.ifc_schema.specs.BodyRepresentations.{is_body_representation}
 use Rattle.ifc_schema.proofs.body.body_representations.Goals as goal
 
 pub loop-instance-preserved : goal.loop-instance-preserved

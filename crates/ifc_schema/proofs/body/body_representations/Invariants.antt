@@ -1,5 +1,5 @@
 use Rattle.std.proofs.Common.{◌≡◌, map}
-use Rattle.ifc_schema.specs.Bodies.{is_body_representation}
+use Rattle.ifc_schema.specs.BodyRepresentations.{is_body_representation}
 use Rattle.ifc_schema.proofs.body.body_representations.Given as goal
 
 abbrev pub invariant-loop-instance : goal.invariant-loop-instance

@@ -1,5 +1,5 @@
 use Rattle.std.proofs.Common.{◌≡◌, map}
-use Rattle.ifc_schema.specs.Bodies.{is_body_shape}
+use Rattle.ifc_schema.specs.BodyRepresentations.{is_body_shape}
 use Rattle.ifc_schema.proofs.body.body_shapes.Given as goal
 
 abbrev pub invariant-loop-instance : goal.invariant-loop-instance

@@ -3,7 +3,7 @@ use Rattle.std.proofs.lemmas.List.Elements.{All-push}
 use Rattle.std.proofs.lemmas.List.Folds.{list_any_at, list_any_none}
 use Rattle.p21_values.specs.declared.value.Value21.{Value21}
 use Rattle.p21_values.proofs.Turns.{turn, ended}
-use Rattle.ifc_schema.specs.Bodies.{is_body_representation, target_passes}
+use Rattle.ifc_schema.specs.BodyRepresentations.{is_body_representation, target_passes}
 use Rattle.ifc_schema.proofs.body.lists_body.Goals as goal
 
 pub returns-then-target_passes : goal.returns-then-target_passes

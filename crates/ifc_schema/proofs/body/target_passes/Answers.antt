@@ -2,11 +2,11 @@ use Rattle.std.proofs.Common.{◌≡◌, ℕ, Bool, false, List, map, get_or, So
 use Rattle.std.proofs.lemmas.List.{get_or-map}
 use Rattle.p21_values.specs.declared.value.Value21.{Value21}
 use Rattle.p21_values.specs.declared.value.Instance.{Instance}
-use Rattle.p21_values.specs.Places.{IsPlaceOf}
+use Rattle.p21_values.specs.InstancePlaces.{IsPlaceOf}
 use Rattle.p21_values.specs.Values.{reference_of}
-use Rattle.p21_values.specs.Looking.{look}
-use Rattle.ifc_instances.specs.Looking.{some_passes}
-use Rattle.ifc_schema.specs.Bodies.{target_passes}
+use Rattle.p21_values.specs.InstanceLookup.{look}
+use Rattle.ifc_instances.specs.EntityLookup.{some_passes}
+use Rattle.ifc_schema.specs.BodyRepresentations.{target_passes}
 use Rattle.p21_values.proofs.PlaceLemmas.{some_instance, found_at}
 use Rattle.ifc_schema.proofs.body.target_passes.Goals as goal
 

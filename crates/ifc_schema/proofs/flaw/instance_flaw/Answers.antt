@@ -1,7 +1,7 @@
 use Rattle.std.proofs.Common.{◌≡◌, List, Some, below_more, ◌∙◌, sym}
 use Rattle.std.proofs.lemmas.List.{get_or_default}
 use Rattle.ifc_instances.specs.declared.entity.Entity.TheVariants.{Subject}
-use Rattle.ifc_instances.specs.Looking.{entity_at}
+use Rattle.ifc_instances.specs.EntityLookup.{entity_at}
 use Rattle.ifc_schema.specs.declared.form.Attribute.{Attribute}
 use Rattle.ifc_schema.specs.Flaws.{AttributeFlaw, FirstFlaw}
 use Rattle.ifc_schema.proofs.ElementRows.{same_row}

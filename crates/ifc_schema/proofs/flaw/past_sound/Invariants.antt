@@ -1,5 +1,5 @@
 use Rattle.std.proofs.Common.{length}
-use Rattle.ifc_schema.specs.Passing.{IsSound, Passes}
+use Rattle.ifc_schema.specs.SoundValues.{IsSound, Passes}
 use Rattle.ifc_schema.proofs.flaw.past_sound.Given as goal
 
 abbrev pub invariant-loop-row : goal.invariant-loop-row

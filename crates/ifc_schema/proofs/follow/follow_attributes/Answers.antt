@@ -7,7 +7,7 @@ use Rattle.ifc_schema.specs.declared.form.Shape.TheVariants.{One}
 use Rattle.ifc_schema.specs.declared.form.Leaf.TheVariants.{Number}
 use Rattle.ifc_schema.specs.declared.worklist.Work.{Work}
 use Rattle.ifc_schema.specs.Used.{NamesBy}
-use Rattle.ifc_schema.specs.Marks.{IsMarked}
+use Rattle.ifc_schema.specs.InstanceMarks.{IsMarked}
 use Rattle.ifc_schema.proofs.Growing.{grows_trans, marked_on, one_more, any_of}
 use Rattle.ifc_schema.proofs.follow.follow_attributes.Goals as goal
 

@@ -1,7 +1,7 @@
 use Rattle.std.proofs.Common.{ℕ, ◌<◌, get_or}
 use Rattle.ifc_schema.specs.declared.form.Attribute.{Attribute}
 use Rattle.ifc_schema.specs.Used.{NamesBy}
-use Rattle.ifc_schema.specs.Marks.{Grows, IsMarked}
+use Rattle.ifc_schema.specs.InstanceMarks.{Grows, IsMarked}
 use Rattle.ifc_schema.proofs.follow.follow_attributes.Given as goal
 
 abbrev pub invariant-loop-attribute : goal.invariant-loop-attribute

@@ -1,8 +1,8 @@
 use Rattle.std.proofs.Common.{ℕ, inl, inr, ◌∙◌, Any}
 use Rattle.ifc_instances.specs.declared.entity.Entity.TheVariants as entity
 use Rattle.ifc_schema.specs.declared.form.Attribute.{Attribute}
-use Rattle.ifc_schema.specs.Marks.{Grows, IsMarked}
-use Rattle.ifc_schema.specs.Table.{row_of}
+use Rattle.ifc_schema.specs.InstanceMarks.{Grows, IsMarked}
+use Rattle.ifc_schema.specs.AttributeTable.{row_of}
 use Rattle.ifc_schema.specs.Used.{NamesBy}
 use Rattle.ifc_schema.proofs.Results.{on_ok, on_ok2}
 use Rattle.ifc_schema.proofs.Growing.{grows_trans, marked_on}

@@ -2,7 +2,7 @@ use Rattle.std.proofs.Common.{ℕ, length, sym, ap, arith}
 use Rattle.p21_values.specs.declared.value.Value21.{Value21}
 use Rattle.ifc_schema.specs.declared.worklist.Work.{Work}
 use Rattle.ifc_schema.specs.Used.{RefersTo, LeadsTo}
-use Rattle.ifc_schema.specs.Marks.{IsMarked}
+use Rattle.ifc_schema.specs.InstanceMarks.{IsMarked}
 use Rattle.p21_values.proofs.Turns.{turn, ended}
 use Rattle.ifc_schema.proofs.Growing.{grows_trans, marked_on, one_given, any_of}
 use Rattle.ifc_schema.proofs.follow.follow_items.Goals as goal

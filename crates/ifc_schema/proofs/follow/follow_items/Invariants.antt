@@ -1,7 +1,7 @@
 use Rattle.std.proofs.Common.{ℕ, ◌<◌, length, get_or}
 use Rattle.p21_values.specs.declared.value.Value21.{Value21}
 use Rattle.ifc_schema.specs.Used.{RefersTo, LeadsTo}
-use Rattle.ifc_schema.specs.Marks.{Grows, IsMarked}
+use Rattle.ifc_schema.specs.InstanceMarks.{Grows, IsMarked}
 use Rattle.ifc_schema.proofs.follow.follow_items.Given as goal
 
 abbrev pub invariant-loop-item : goal.invariant-loop-item

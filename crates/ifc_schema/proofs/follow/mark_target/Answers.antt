@@ -1,8 +1,8 @@
 use Rattle.std.proofs.Common.{◌≡◌, get_or, sym, ◌∙◌, true, false}
 use Rattle.std.proofs.lemmas.Option.{get_or_from_slice_get}
-use Rattle.p21_values.specs.Places.{IsPlaceOf}
+use Rattle.p21_values.specs.InstancePlaces.{IsPlaceOf}
 use Rattle.ifc_schema.specs.Forms.{holds}
-use Rattle.ifc_schema.specs.Marks.{rank}
+use Rattle.ifc_schema.specs.InstanceMarks.{rank}
 use Rattle.ifc_schema.proofs.Growing.{meant_there, not_meant, reached_there, raise_grows}
 use Rattle.ifc_schema.proofs.Results.{on_ok2}
 use Rattle.ifc_schema.proofs.follow.mark_target.Goals as goal

@@ -1,7 +1,7 @@
 use Rattle.std.proofs.Common.{◌≡◌, ◌<◌, ℕ, true, get_or, sym, ◌∙◌, subst}
 use Rattle.std.proofs.lemmas.Option.{get_or_from_slice_get}
-use Rattle.p21_values.specs.Places.{IsPlaceOf}
-use Rattle.ifc_schema.specs.Marks.{is_seen, rank_at}
+use Rattle.p21_values.specs.InstancePlaces.{IsPlaceOf}
+use Rattle.ifc_schema.specs.InstanceMarks.{is_seen, rank_at}
 use Rattle.ifc_schema.specs.Surveys.{UsedFlaw, fault_of}
 use Rattle.ifc_schema.proofs.Listing.{seen_there, fault_there}
 use Rattle.ifc_schema.proofs.surveying.fault_at.Goals as goal

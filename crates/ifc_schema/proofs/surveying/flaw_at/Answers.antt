@@ -1,6 +1,6 @@
 use Rattle.std.proofs.Common.{◌≡◌, ◌<◌, false, length, get_or, sym, ap, ◌∙◌, arith}
 use Rattle.std.proofs.lemmas.Option.{get_or_from_slice_get}
-use Rattle.ifc_schema.specs.Marks.{is_mapped, mark_at}
+use Rattle.ifc_schema.specs.InstanceMarks.{is_mapped, mark_at}
 use Rattle.ifc_schema.proofs.Following.{flag_there, marked_within}
 use Rattle.ifc_schema.proofs.BodyBits.{bits_within, bit_there}
 use Rattle.ifc_schema.proofs.Listing.{used_flaw}

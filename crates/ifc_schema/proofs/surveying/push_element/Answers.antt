@@ -2,7 +2,7 @@ use Rattle.std.proofs.Common.{◌≡◌, ◌<◌, ◌++◌, ◌∷◌, [], false
 use Rattle.std.proofs.lemmas.Option.{get_or_from_slice_get}
 use Rattle.ifc_schema.specs.Surveys.{IsModelElement, is_model_element}
 use Rattle.ifc_schema.proofs.BodyBits.{bits_within, bit_there}
-use Rattle.ifc_schema.specs.Marks.{is_seen, rank_at}
+use Rattle.ifc_schema.specs.InstanceMarks.{is_seen, rank_at}
 use Rattle.ifc_schema.proofs.Listing.{lists_same, unseen_there, seen_there, push_there, element_used, no_element, element_there}
 use Rattle.ifc_schema.proofs.surveying.push_element.Goals as goal
 

@@ -1,7 +1,7 @@
 use Rattle.std.proofs.Common.{◌≡◌, ◌<◌, ◌++◌, ◌∷◌, [], false, true, get_or, sym, ◌∙◌}
 use Rattle.std.proofs.lemmas.Option.{get_or_from_slice_get}
 use Rattle.ifc_schema.specs.Used.{IsMapped}
-use Rattle.ifc_schema.specs.Marks.{is_mapped, rank_at}
+use Rattle.ifc_schema.specs.InstanceMarks.{is_mapped, rank_at}
 use Rattle.ifc_schema.proofs.Listing.{lists_same, unmapped_there, mapped_there, push_there}
 use Rattle.ifc_schema.proofs.surveying.push_mapped.Goals as goal
 

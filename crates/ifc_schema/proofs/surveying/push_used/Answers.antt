@@ -1,7 +1,7 @@
 use Rattle.std.proofs.Common.{◌≡◌, ◌<◌, ◌++◌, ◌∷◌, [], false, true, get_or, sym, ◌∙◌}
 use Rattle.std.proofs.lemmas.Option.{get_or_from_slice_get}
 use Rattle.ifc_schema.specs.Used.{Used}
-use Rattle.ifc_schema.specs.Marks.{is_seen, rank_at}
+use Rattle.ifc_schema.specs.InstanceMarks.{is_seen, rank_at}
 use Rattle.ifc_schema.proofs.Listing.{lists_same, unseen_there, seen_there, push_there}
 use Rattle.ifc_schema.proofs.surveying.push_used.Goals as goal
 

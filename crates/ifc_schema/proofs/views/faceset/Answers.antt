@@ -1,6 +1,6 @@
 use Rattle.std.proofs.Common.{false}
 use Rattle.ifc_instances.specs.declared.entity.Entity.TheVariants.{TriangulatedFaceSet, PolygonalFaceSet}
-use Rattle.ifc_schema.specs.Views.{NoneFormed, Views, TriangulatedFields, PolygonalFields}
+use Rattle.ifc_schema.specs.EntityViews.{NoneFormed, Views, TriangulatedFields, PolygonalFields}
 use Rattle.ifc_schema.proofs.Rows.{one_of_two}
 use Rattle.ifc_schema.proofs.views.faceset.Goals as goal
 

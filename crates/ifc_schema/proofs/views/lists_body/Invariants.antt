@@ -1,5 +1,5 @@
 use Rattle.std.proofs.Common.{◌≡◌, false, All}
-use Rattle.ifc_schema.specs.Bodies.{is_body_representation, target_passes}
+use Rattle.ifc_schema.specs.BodyRepresentations.{is_body_representation, target_passes}
 use Rattle.ifc_schema.proofs.views.lists_body.Given as goal
 
 abbrev pub invariant-loop-item : goal.invariant-loop-item

@@ -1,6 +1,6 @@
 use Rattle.std.proofs.Common.{false}
 use Rattle.ifc_instances.specs.declared.entity.Entity.TheVariants.{Face, FaceWithVoids}
-use Rattle.ifc_schema.specs.Views.{NoneFormed, Views, FaceFields, VoidedFields}
+use Rattle.ifc_schema.specs.EntityViews.{NoneFormed, Views, FaceFields, VoidedFields}
 use Rattle.ifc_schema.proofs.Rows.{one_of_two}
 use Rattle.ifc_schema.proofs.views.polygon_face.Goals as goal
 

@@ -1,6 +1,6 @@
 use Rattle.std.proofs.Common.{◌≡◌, Some, arith}
 use Rattle.ifc_instances.specs.declared.entity.Entity.TheVariants as entity
-use Rattle.ifc_instances.specs.Looking.{entity_at}
+use Rattle.ifc_instances.specs.EntityLookup.{entity_at}
 use Rattle.ifc_schema.proofs.Rows as rows
 use Rattle.ifc_schema.proofs.views.representation.Goals as goal
 

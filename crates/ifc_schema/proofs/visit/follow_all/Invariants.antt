@@ -1,5 +1,5 @@
 use Rattle.std.proofs.Common.{ℕ, ◌<◌}
-use Rattle.ifc_schema.specs.Marks.{Going, rank_at, weight}
+use Rattle.ifc_schema.specs.InstanceMarks.{Going, rank_at, weight}
 use Rattle.ifc_schema.proofs.visit.follow_all.Given as goal
 
 abbrev pub invariant-loop-at : goal.invariant-loop-at

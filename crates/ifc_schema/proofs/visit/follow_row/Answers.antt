@@ -1,10 +1,10 @@
 use Rattle.std.proofs.Common.{◌≡◌, ℕ, Bool, List, Some, Any, sym, subst}
 use Rattle.p21_values.specs.declared.value.Instance.{Instance}
 use Rattle.ifc_instances.specs.declared.entity.Entity.TheVariants.{Subject}
-use Rattle.ifc_instances.specs.Looking.{entity_at}
+use Rattle.ifc_instances.specs.EntityLookup.{entity_at}
 use Rattle.ifc_schema.specs.declared.form.Attribute.{Attribute}
-use Rattle.ifc_schema.specs.Marks.{IsMarked}
-use Rattle.ifc_schema.specs.Table.{row_of, row_at}
+use Rattle.ifc_schema.specs.InstanceMarks.{IsMarked}
+use Rattle.ifc_schema.specs.AttributeTable.{row_of, row_at}
 use Rattle.ifc_schema.specs.Used.{NamesBy}
 use Rattle.ifc_schema.proofs.Results.{on_ok}
 use Rattle.ifc_schema.proofs.ElementRows.{same_row, row_same}

@@ -4,8 +4,8 @@ use Rattle.std.proofs.lemmas.Option.{get_or_from_slice_get}
 use Rattle.p21_values.specs.declared.value.Instance.{Instance}
 use Rattle.ifc_schema.specs.declared.worklist.Mark.TheVariants.{Used as Met}
 use Rattle.ifc_schema.specs.Used.{is_root}
-use Rattle.ifc_instances.specs.Looking.{entity_at}
-use Rattle.p21_values.specs.Places.{IsPlaceOf}
+use Rattle.ifc_instances.specs.EntityLookup.{entity_at}
+use Rattle.p21_values.specs.InstancePlaces.{IsPlaceOf}
 use Rattle.ifc_schema.proofs.Results.{on_ok2}
 use Rattle.ifc_schema.proofs.Growing.{raise_grows}
 use Rattle.ifc_schema.proofs.Following.{no_root, root_sound}

@@ -1,6 +1,6 @@
 use Rattle.std.proofs.Common.{◌<◌, inl, inr, arith, subst, sym}
 use Rattle.ifc_instances.proofs.Rising.{below_next}
-use Rattle.ifc_schema.specs.Marks.{IsRootAt, rank_at}
+use Rattle.ifc_schema.specs.InstanceMarks.{IsRootAt, rank_at}
 use Rattle.ifc_schema.proofs.Growing.{grows_trans}
 use Rattle.ifc_schema.proofs.visit.mark_roots.Goals as goal
 

@@ -1,5 +1,5 @@
 use Rattle.std.proofs.Common.{ℕ, ◌<◌}
-use Rattle.ifc_schema.specs.Marks.{Grows, IsRootAt, rank_at}
+use Rattle.ifc_schema.specs.InstanceMarks.{Grows, IsRootAt, rank_at}
 use Rattle.ifc_schema.proofs.visit.mark_roots.Given as goal
 
 abbrev pub invariant-loop-at : goal.invariant-loop-at

@@ -1,5 +1,5 @@
 use Rattle.std.proofs.Common.{ℕ, ◌<◌}
-use Rattle.ifc_schema.specs.Marks.{IsRootAt, rank_at}
+use Rattle.ifc_schema.specs.InstanceMarks.{IsRootAt, rank_at}
 use Rattle.ifc_schema.proofs.Following.{going_first, all_used, all_mapped}
 use Rattle.ifc_schema.proofs.visit.mark_used.Goals as goal
 

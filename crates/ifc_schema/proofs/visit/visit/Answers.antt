@@ -1,7 +1,7 @@
 use Rattle.std.proofs.Common.{◌≡◌, ◌<◌, false, length, get_or, sym, ap, ◌∙◌, subst, arith}
 use Rattle.std.proofs.lemmas.Option.{get_or_from_slice_get}
 use Rattle.ifc_schema.specs.Used.{Names}
-use Rattle.ifc_schema.specs.Marks.{is_mapped, mark_at, IsFollowed}
+use Rattle.ifc_schema.specs.InstanceMarks.{is_mapped, mark_at, IsFollowed}
 use Rattle.ifc_schema.proofs.Results.{on_ok}
 use Rattle.ifc_schema.proofs.Following.{names_used, any_names, maps_names, maps_mapped, flag_there, marked_within}
 use Rattle.ifc_schema.proofs.BodyBits.{bits_within, bit_there}

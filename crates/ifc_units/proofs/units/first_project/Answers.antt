@@ -1,7 +1,7 @@
 use Rattle.std.proofs.Common.{sym, ◌∙◌}
 use Rattle.p21_values.proofs.Turns.{so_far, turn, ended}
 use Rattle.ifc_instances.specs.declared.entity.Entity.TheVariants.{Project}
-use Rattle.ifc_instances.specs.Looking.{is_a}
+use Rattle.ifc_instances.specs.EntityLookup.{is_a}
 use Rattle.ifc_units.proofs.UnitFacts.{first_found, first_lacks}
 use Rattle.ifc_units.proofs.units.first_project.Goals as goal
 

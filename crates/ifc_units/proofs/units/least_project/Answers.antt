@@ -1,6 +1,6 @@
 use Rattle.std.proofs.Common.{sym, ◌∙◌}
 use Rattle.ifc_instances.specs.declared.entity.Entity.TheVariants.{Project}
-use Rattle.ifc_instances.specs.Looking.{is_a}
+use Rattle.ifc_instances.specs.EntityLookup.{is_a}
 use Rattle.ifc_units.proofs.UnitFacts.{least_found, none_least}
 use Rattle.ifc_units.proofs.units.least_project.Goals as goal
 

@@ -2,7 +2,7 @@ use Rattle.std.proofs.Common.{◌≡◌, [], ◌∷◌, length, ap, find, sym, �
 use Rattle.p21_values.specs.declared.value.Instance.{Instance}
 use Rattle.ifc_units.specs.Units.{projects}
 use Rattle.ifc_instances.specs.declared.entity.Entity.TheVariants.{Project}
-use Rattle.ifc_instances.specs.Looking.{is_a}
+use Rattle.ifc_instances.specs.EntityLookup.{is_a}
 use Rattle.ifc_units.proofs.UnitFacts.{first_alone, first_there}
 use Rattle.ifc_units.proofs.units.only_project.Goals as goal
 

@@ -1,5 +1,5 @@
 use Rattle.std.proofs.Common.{true, All}
-use Rattle.bim_net.specs.Seen.{IsNew}
+use Rattle.bim_net.specs.ConnectionViews.{IsNew}
 use Rattle.bim_net.specs.Stores.{door_of}
 use Rattle.lane_tests.proofs.lanes_tests.doors.Given as goal
 

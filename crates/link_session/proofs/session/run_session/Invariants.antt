@@ -1,4 +1,4 @@
-use Rattle.bim_io.specs.Seen.{outside}
+use Rattle.bim_io.specs.StreamViews.{outside}
 use Rattle.link_session.specs.Callers.{CallerLaws}
 use Rattle.link_session.proofs.SoFar.{SoFar, service_of}
 use Rattle.link_session.proofs.session.run_session.Given as goal

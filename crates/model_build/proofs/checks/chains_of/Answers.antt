@@ -1,7 +1,7 @@
 use Rattle.std.proofs.Common.{ℕ, List, subst}
 use Rattle.ifc_schema.specs.Surveys.{IsModelElement, element_ids}
 use Rattle.placement.specs.Chains.{IsLoopCause}
-use Rattle.model_build.specs.Named.{ListsNamed}
+use Rattle.model_build.specs.NamedPlacements.{ListsNamed}
 use Rattle.model_build.proofs.ChainsEnd.{loop_stage, err_by}
 use Rattle.model_build.proofs.checks.chains_of.Goals as goal
 

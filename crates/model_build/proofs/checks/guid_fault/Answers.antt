@@ -1,7 +1,7 @@
 use Rattle.std.proofs.Common.{ℕ, List, Option, Contains, subst}
 use Rattle.std.specs.Option.{MatchOption}
 use Rattle.ifc_schema.specs.Surveys.{IsModelElement, element_ids}
-use Rattle.model_build.specs.Guids.{NoneRepeats, IsFirstRepeated}
+use Rattle.model_build.specs.DuplicateGuids.{NoneRepeats, IsFirstRepeated}
 use Rattle.model_build.proofs.RepeatedGuids.{repeated_fault, identified}
 use Rattle.model_build.proofs.checks.guid_fault.Goals as goal
 

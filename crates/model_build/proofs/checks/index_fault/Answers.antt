@@ -1,6 +1,6 @@
 use Rattle.std.proofs.Common.{ℕ, List, subst}
 use Rattle.ifc_schema.specs.Surveys.{used_ids}
-use Rattle.model_build.specs.Least.{NoneOf, IsLeastOf, IsBadSet}
+use Rattle.model_build.specs.FaultyInstances.{NoneOf, IsLeastOf, IsBadSet}
 use Rattle.model_build.proofs.FirstIsLeast.{index_least}
 use Rattle.ifc_elements.proofs.CasesOfAnswers.{of_none, of_some}
 use Rattle.model_build.proofs.checks.index_fault.Goals as goal

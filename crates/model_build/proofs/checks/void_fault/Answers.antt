@@ -1,6 +1,6 @@
 use Rattle.std.proofs.Common.{ℕ, List, subst}
 use Rattle.ifc_schema.specs.Surveys.{used_ids}
-use Rattle.model_build.specs.Least.{NoneOf, IsLeastOf, IsVoided}
+use Rattle.model_build.specs.FaultyInstances.{NoneOf, IsLeastOf, IsVoided}
 use Rattle.model_build.proofs.FirstIsLeast.{void_least}
 use Rattle.model_build.proofs.checks.void_fault.Goals as goal
 

@@ -1,7 +1,7 @@
 use Rattle.std.proofs.Common.{◌+◌, List, sum_by, ap, sym, ◌∙◌, arith}
 use Rattle.p21_values.specs.declared.value.Value21.{Value21}
 use Rattle.p21_values.specs.Attributes.{led_to}
-use Rattle.faceset.specs.Sets.{triangle_count}
+use Rattle.faceset.specs.FaceSets.{triangle_count}
 use Rattle.p21_values.proofs.Turns.{so_far, turn, ended}
 use Rattle.faceset.proofs.Named.{summed_more, summed_front}
 use Rattle.model_build.proofs.counts.count_sets.Goals as goal

@@ -1,5 +1,5 @@
 use Rattle.std.proofs.Common.{◌≡◌, ◌≤◌, ◌+◌, sum_by}
-use Rattle.faceset.specs.Sets.{triangle_count}
+use Rattle.faceset.specs.FaceSets.{triangle_count}
 use Rattle.p21_values.specs.Attributes.{led_to}
 use Rattle.model_build.specs.Triangles.{most_triangles}
 use Rattle.model_build.proofs.counts.count_sets.Given as goal

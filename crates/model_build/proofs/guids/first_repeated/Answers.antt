@@ -1,7 +1,7 @@
 use Rattle.std.proofs.Common.{◌≡◌, ◌+◌, get_or, true, false, not, Bool, subst, sym, refl, Option, Some, None, MatchOption}
 use Rattle.bim_model.specs.declared.guid.Guid.{Guid}
 use Rattle.std.specs.BTreeSet.{contains}
-use Rattle.model_build.specs.Guids.{HasThatGuid, HasNoGuid}
+use Rattle.model_build.specs.DuplicateGuids.{HasThatGuid, HasNoGuid}
 use Rattle.model_build.proofs.FirstRepeated.{Searched, by_bytes, first_found, searched_more, none_repeat, never_missing}
 use Rattle.model_build.proofs.guids.first_repeated.Goals as goal
 use Rattle.model_build.proofs.guids.first_repeated.Goals.{in-Some+in_ok-added+else-not-added, in_default}

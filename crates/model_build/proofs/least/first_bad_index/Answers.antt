@@ -1,7 +1,7 @@
 use Rattle.std.proofs.Common.{arith}
 use Rattle.std.proofs.lemmas.Bool.{MatchBool-at_true, MatchBool-at_false}
 use Rattle.std.proofs.lemmas.List.Elements.{All-more}
-use Rattle.model_build.specs.Least.{IsBadSet}
+use Rattle.model_build.specs.FaultyInstances.{IsBadSet}
 use Rattle.model_build.proofs.FirstIsLeast.{least_here, none_there}
 use Rattle.model_build.proofs.least.first_bad_index.Goals as goal
 

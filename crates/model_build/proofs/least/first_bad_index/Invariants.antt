@@ -1,6 +1,6 @@
 use Rattle.std.proofs.Common.{take, All}
 use Rattle.faceset.specs.Learnt.{IsLearnt}
-use Rattle.model_build.specs.Least.{IsBadSet}
+use Rattle.model_build.specs.FaultyInstances.{IsBadSet}
 use Rattle.model_build.proofs.least.first_bad_index.Given as goal
 
 abbrev pub invariant-loop-id : goal.invariant-loop-id

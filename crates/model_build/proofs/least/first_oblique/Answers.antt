@@ -1,6 +1,6 @@
 use Rattle.std.proofs.Common.{get_or, arith}
 use Rattle.std.proofs.lemmas.List.Elements.{All-more, Contains-get_or}
-use Rattle.model_build.specs.Least.{IsOblique}
+use Rattle.model_build.specs.FaultyInstances.{IsOblique}
 use Rattle.model_build.proofs.FirstIsLeast.{least_here, none_there}
 use Rattle.model_build.proofs.least.first_oblique.Goals as goal
 

@@ -1,5 +1,5 @@
 use Rattle.std.proofs.Common.{take, All}
-use Rattle.model_build.specs.Least.{IsOblique}
+use Rattle.model_build.specs.FaultyInstances.{IsOblique}
 use Rattle.model_build.proofs.least.first_oblique.Given as goal
 
 abbrev pub invariant-loop-id : goal.invariant-loop-id

@@ -1,9 +1,9 @@
 use Rattle.std.proofs.Common.{◌≡◌, ℕ, Bool, true, false, List, Result, Ok, Err, IfOk, Some, subst, sym, ◌∙◌}
 use Rattle.std.specs.Bool.{MatchBool}
 use Rattle.p21_values.specs.declared.value.Instance.{Instance}
-use Rattle.p21_values.specs.Looking.{look}
-use Rattle.faceset.specs.Sets.{is_set, HasBadIndex}
-use Rattle.model_build.specs.Least.{IsBadSet}
+use Rattle.p21_values.specs.InstanceLookup.{look}
+use Rattle.faceset.specs.FaceSets.{is_set, HasBadIndex}
+use Rattle.model_build.specs.FaultyInstances.{IsBadSet}
 use Rattle.model_build.proofs.least.is_bad_set.Goals as goal
 
 told : {E : Type 0} (world : List Instance) (id : ℕ) (set : Instance) (r : Result Bool E) → Some set ≡ look world id → is_set set ≡ true → IfOk r (λ b. MatchBool b (HasBadIndex world set) (HasBadIndex world set → ⊥))

@@ -1,7 +1,7 @@
 use Rattle.std.proofs.Common.{◌≡◌, ◌++◌, ◌∷◌, [], take, get_or, ap, subst, sym, arith}
 use Rattle.std.proofs.lemmas.Grind.{common_steps}
 use Rattle.std.proofs.lemmas.List.{take_more}
-use Rattle.model_build.specs.Named.{ListsNamed}
+use Rattle.model_build.specs.NamedPlacements.{ListsNamed}
 use Rattle.model_build.proofs.PlacementsNamed.{named_pushed, named_passed}
 use Rattle.model_build.proofs.named_placements.placements.Goals as goal
 use Rattle.model_build.proofs.named_placements.placements.Goals.{in-Some+in_ok-push, in_default}

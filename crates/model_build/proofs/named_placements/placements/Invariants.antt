@@ -1,5 +1,5 @@
 use Rattle.std.proofs.Common.{take}
-use Rattle.model_build.specs.Named.{ListsNamed}
+use Rattle.model_build.specs.NamedPlacements.{ListsNamed}
 use Rattle.model_build.proofs.named_placements.placements.Given as goal
 
 abbrev pub invariant-loop-id : goal.invariant-loop-id

@@ -3,7 +3,7 @@ use Rattle.std.specs.List.{AllZip}
 use Rattle.bim_model.specs.declared.element.Element.{Element}
 use Rattle.ifc_schema.specs.Surveys.{used_ids, element_ids}
 use Rattle.placement.specs.Placed.{frame_in}
-use Rattle.ifc_elements.specs.Making.{IsNearElement, IsFirstLacking}
+use Rattle.ifc_elements.specs.ElementReadiness.{IsNearElement, IsFirstLacking}
 use Rattle.ifc_elements.proofs.CasesOfAnswers.{of_ok, of_err}
 use Rattle.ifc_elements.proofs.ElementsMade.{all_framed}
 use Rattle.model_build.specs.Profile.{IsModelOf}

@@ -1,5 +1,5 @@
 use Rattle.std.proofs.Common.{◌∙◌, sym}
-use Rattle.faceset.specs.Sets.{HasStuck}
+use Rattle.faceset.specs.FaceSets.{HasStuck}
 use Rattle.ifc_instances.specs.Least.{LeastOf}
 use Rattle.model_build.specs.Outcomes.{ShowsStuckSet}
 use Rattle.ifc_elements.proofs.PointsOnGrid.{listed_grid}

@@ -1,6 +1,6 @@
 use Rattle.std.proofs.Common.{arith}
 use Rattle.std.proofs.lemmas.List.Elements.{All-more}
-use Rattle.model_build.specs.Least.{IsVoided}
+use Rattle.model_build.specs.FaultyInstances.{IsVoided}
 use Rattle.model_build.proofs.FirstIsLeast.{least_here, none_there}
 use Rattle.model_build.proofs.unread_faces.first_voided.Goals as goal
 

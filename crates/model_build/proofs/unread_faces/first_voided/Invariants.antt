@@ -1,5 +1,5 @@
 use Rattle.std.proofs.Common.{take, All}
-use Rattle.model_build.specs.Least.{IsVoided}
+use Rattle.model_build.specs.FaultyInstances.{IsVoided}
 use Rattle.model_build.proofs.unread_faces.first_voided.Given as goal
 
 abbrev pub invariant-loop-id : goal.invariant-loop-id

@@ -1,6 +1,6 @@
 use Rattle.std.proofs.Common.{take}
 use Rattle.ifc_instances.specs.Least.{LeastOf}
-use Rattle.model_build.specs.Least.{ShownBy}
+use Rattle.model_build.specs.FaultyInstances.{ShownBy}
 use Rattle.model_build.specs.Showing.{BodyShows}
 use Rattle.model_build.proofs.unsupported.least_in_bodies.Given as goal
 

@@ -1,5 +1,5 @@
 use Rattle.std.proofs.Common.{rules, ◌≡◌, true}
-use Rattle.ifc_schema.specs.Bodies.{is_body_representation}
+use Rattle.ifc_schema.specs.BodyRepresentations.{is_body_representation}
 use Rattle.model_build.proofs.OtherItems.{body_least}
 use Rattle.model_build.proofs.unsupported.other_in_body.Goals as goal
 

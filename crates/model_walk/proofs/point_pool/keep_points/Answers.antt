@@ -1,6 +1,6 @@
 use Rattle.std.proofs.Common.{◌≡◌, true, sym, ◌∙◌, subst}
 use Rattle.ifc_instances.specs.declared.entity.Entity.TheVariants.{PointList}
-use Rattle.ifc_instances.specs.Looking.{is_a}
+use Rattle.ifc_instances.specs.EntityLookup.{is_a}
 use Rattle.walk_rows.specs.Pools.{Pools}
 use Rattle.model_walk.proofs.PointsPooled.{kept_none, kept_some}
 use Rattle.model_walk.proofs.point_pool.keep_points.Goals as goal

@@ -1,7 +1,7 @@
 use Rattle.std.proofs.Common.{Some, List, length, sym, ◌∙◌, subst, ap, arith}
 use Rattle.std.specs.List.{All}
 use Rattle.bim_model.specs.Points.{IsGridPoint}
-use Rattle.faceset.specs.Sets.{SetTriangles}
+use Rattle.faceset.specs.FaceSets.{SetTriangles}
 use Rattle.walk_rows.specs.declared.triangle_rows.Row.{Row}
 use Rattle.walk_rows.specs.Rows.{triangles_at}
 use Rattle.model_walk.proofs.OneSetRead.{pooled_grid, is_read}

@@ -2,7 +2,7 @@ use Rattle.std.proofs.Common.{◌≤◌, List, Option}
 use Rattle.bim_model.specs.declared.limits.TheConstants.{MOST_TRIANGLES}
 use Rattle.bim_model.specs.declared.geometry.Point.{Point}
 use Rattle.p21_values.specs.Attributes.{led_to}
-use Rattle.model_walk.specs.Kept.{AreReadSets}
+use Rattle.model_walk.specs.PooledSets.{AreReadSets}
 use Rattle.model_walk.specs.Stocked.{AddsPieces}
 use Rattle.model_walk.proofs.shape_pieces.add_items.Given as goal
 

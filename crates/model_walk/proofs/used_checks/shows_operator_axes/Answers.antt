@@ -2,7 +2,7 @@ use Rattle.std.proofs.Common.{◌≡◌, ℕ, Bool, true, Option, Some, None, is
 use Rattle.std.specs.Option.{IfSome}
 use Rattle.std.specs.Bool.{OnTrue}
 use Rattle.ifc_instances.specs.declared.entity.Entity.TheVariants.{Operator}
-use Rattle.ifc_instances.specs.Looking.{is_a}
+use Rattle.ifc_instances.specs.EntityLookup.{is_a}
 use Rattle.placement.specs.declared.axes.Axes.{Axes}
 use Rattle.placement.specs.Operators.{HasOperatorAxes}
 use Rattle.model_walk.proofs.used_checks.shows_operator_axes.Goals as goal

@@ -1,5 +1,5 @@
 use Rattle.std.proofs.Common.{◌≡◌, ◌<◌, true, sym, ap, ◌∙◌, subst}
-use Rattle.ifc_schema.specs.Marks.{is_seen, is_mapped, mark_at, rank_at}
+use Rattle.ifc_schema.specs.InstanceMarks.{is_seen, is_mapped, mark_at, rank_at}
 use Rattle.ifc_schema.proofs.Following.{flag_there}
 use Rattle.ifc_schema.proofs.Listing.{seen_there, unseen_there}
 use Rattle.model_walk.proofs.PlacesChecked.{looked_there}

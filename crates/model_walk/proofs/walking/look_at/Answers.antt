@@ -3,7 +3,7 @@ use Rattle.std.proofs.lemmas.Bool.{OnTrue_at}
 use Rattle.p21_values.specs.declared.value.Instance.{Instance}
 use Rattle.ifc_schema.proofs.BodyBits.{bits_within, bit_there}
 use Rattle.ifc_instances.specs.declared.entity.Entity.TheVariants.{PointList}
-use Rattle.ifc_instances.specs.Looking.{is_a}
+use Rattle.ifc_instances.specs.EntityLookup.{is_a}
 use Rattle.model_walk.specs.Clean.{IsClean}
 use Rattle.model_walk.proofs.CleanShown.{clean_shown, list_clean, set_clean}
 use Rattle.model_walk.proofs.GuidsDiffer.{on_true}

@@ -1,6 +1,6 @@
 use Rattle.std.proofs.Common.{◌≡◌, ◌+◌, ◌-◌, ◌≤◌, length, drop}
 use Rattle.p21_lexer.specs.Spelling.{run}
-use Rattle.p21_lexer.specs.Gaps.{is_blank}
+use Rattle.p21_lexer.specs.TokenSeparators.{is_blank}
 use Rattle.p21_lexer.proofs.gaps.blanks_end.Given as goal
 
 abbrev pub invariant-loop-at : goal.invariant-loop-at

@@ -1,7 +1,7 @@
 use Rattle.std.proofs.Common.{◌≡◌, ◌-◌, ◌≤◌, length, drop}
 use Rattle.p21_lexer.proofs.Gapping.{Gap}
 use Rattle.p21_lexer.specs.Spelling.{run}
-use Rattle.p21_lexer.specs.Gaps.{is_blank}
+use Rattle.p21_lexer.specs.TokenSeparators.{is_blank}
 use Rattle.p21_lexer.proofs.gaps.skip_any.Given as goal
 
 abbrev pub invariant-loop-from : goal.invariant-loop-from

@@ -1,7 +1,7 @@
 use Rattle.std.proofs.Common.{◌≡◌, ℕ, List, get_or, true, Some, Ok, refl, sym, ap, subst, ◌∙◌, arith}
 use Rattle.p21_lexer.specs.declared.token.Token.{Token}
 use Rattle.p21_lexer.specs.declared.token.TokenKind.TheVariants as tokens
-use Rattle.p21_lexer.specs.Gaps.{is_blank}
+use Rattle.p21_lexer.specs.TokenSeparators.{is_blank}
 use Rattle.p21_lexer.specs.Spelling.{value_after}
 use Rattle.p21_lexer.specs.Cutting.{CutsFrom}
 use Rattle.p21_values.specs.Lexemes.{ReferenceTo}

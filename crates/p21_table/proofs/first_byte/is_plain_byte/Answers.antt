@@ -1,5 +1,5 @@
 use Rattle.std.proofs.Common.{◌<◌, refl, arith}
-use Rattle.bim_text.specs.Texts.{is_plain}
+use Rattle.bim_text.specs.TextSpellings.{is_plain}
 use Rattle.p21_table.specs.declared.first_byte.TheConstants.{PLAIN_BYTES}
 use Rattle.p21_table.proofs.TextsThere.{byte_told}
 use Rattle.p21_table.proofs.first_byte.is_plain_byte.Goals as goal

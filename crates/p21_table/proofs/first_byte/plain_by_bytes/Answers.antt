@@ -1,5 +1,5 @@
 use Rattle.std.proofs.Common.{◌+◌, ◌<◌, length, refl, sym, ◌∙◌, arith}
-use Rattle.bim_text.specs.Texts.{is_plain}
+use Rattle.bim_text.specs.TextSpellings.{is_plain}
 use Rattle.p21_table.proofs.TextsThere.{none_yet, all_more, text_there}
 use Rattle.p21_table.proofs.first_byte.plain_by_bytes.Goals as goal
 

@@ -1,6 +1,6 @@
 use Rattle.std.proofs.Common.{◌≡◌, ◌-◌, ◌≤◌, length, slice_range, true}
 use Rattle.std.specs.List.{list_all}
-use Rattle.bim_text.specs.Texts.{is_plain}
+use Rattle.bim_text.specs.TextSpellings.{is_plain}
 use Rattle.p21_table.proofs.first_byte.plain_by_bytes.Given as goal
 
 abbrev pub invariant-loop-end : goal.invariant-loop-end

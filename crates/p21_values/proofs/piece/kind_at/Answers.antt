@@ -1,6 +1,6 @@
 use Rattle.std.proofs.Common.{refl, sym, ap, ◌∙◌}
 use Rattle.p21_values.specs.Lexemes.{class_of}
-use Rattle.p21_values.specs.Pieces.{kind_of}
+use Rattle.p21_values.specs.TokenPieces.{kind_of}
 use Rattle.p21_values.proofs.Seen.{alone_says, simple_seen}
 use Rattle.p21_values.proofs.piece.kind_at.Goals as goal
 

@@ -1,6 +1,6 @@
 use Rattle.std.proofs.Common.{◌≡◌, Some, ap, ◌∙◌, sym}
 use Rattle.std.proofs.lemmas.Option.{get_or_from_slice_get}
-use Rattle.p21_values.specs.Looking.{look}
+use Rattle.p21_values.specs.InstanceLookup.{look}
 use Rattle.p21_values.proofs.PlaceLemmas.{found_at}
 use Rattle.placement.proofs.Walking.{parent_is, unparented}
 use Rattle.placement.proofs.walk.standing_of.Goals as goal

@@ -1,5 +1,5 @@
 use Rattle.std.proofs.Common.{sym, ◌∙◌, ap, subst}
-use Rattle.bim_net.specs.Seen.{DoorSeen}
+use Rattle.bim_net.specs.ConnectionViews.{DoorSeen}
 use Rattle.book_passes.specs.Lessons.{BookPass, caller_of}
 use Rattle.serve_lanes.specs.Lanes.{ServedLink, LaneServed}
 use Rattle.serve_lanes.proofs.Links.{served_link, spent_end, lane_one, lane_none}

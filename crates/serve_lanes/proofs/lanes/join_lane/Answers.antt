@@ -1,6 +1,6 @@
 use Rattle.std.proofs.Common.{◌≡◌, ◌++◌, ◌∷◌, [], List, map, sym, ap, ◌∙◌, subst}
 use Rattle.std.proofs.lemmas.List.{map-append}
-use Rattle.bim_net.specs.Seen.{DoorSeen}
+use Rattle.bim_net.specs.ConnectionViews.{DoorSeen}
 use Rattle.serve_lanes.specs.Histories.{LanesJoined}
 use Rattle.serve_lanes.proofs.Joining.{joined_more}
 use Rattle.serve_lanes.proofs.lanes.join_lane.Goals as goal

@@ -1,7 +1,7 @@
 use Rattle.std.proofs.Common.{◌≡◌, ◌≢◌, ◌++◌, ◌∷◌, [], List, length, All, map, false, refl, sym, ap, ◌∙◌, subst, arith, length-append}
 use Rattle.std.proofs.lemmas.List.{map-append, length-map}
 use Rattle.std.proofs.lemmas.List.Elements.{All-head, All-tail}
-use Rattle.bim_net.specs.Seen.{DoorSeen}
+use Rattle.bim_net.specs.ConnectionViews.{DoorSeen}
 use Rattle.serve_lanes.specs.Histories.{LaneOver, LanesJoined}
 use Rattle.serve_lanes.proofs.Rows.{numbers_moved}
 use Rattle.serve_lanes.proofs.Joining.{joined_none, numbers_apart}

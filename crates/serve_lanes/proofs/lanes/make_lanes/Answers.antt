@@ -1,7 +1,7 @@
 use Rattle.std.proofs.Common.{◌≡◌, ◌+◌, ◌∷◌, ℕ, length, vec_len, map, All, sym, ap, ◌∙◌, subst, arith}
 use Rattle.std.proofs.lemmas.List.Elements.{All-nil, All-head, All-tail, All-push}
 use Rattle.bim_net.specs.Hosts.{AreNew}
-use Rattle.book_turn.specs.Numbers.{numbers_from}
+use Rattle.book_turn.specs.NumberLists.{numbers_from}
 use Rattle.book_turn.specs.Passes.{new_passes}
 use Rattle.book_history.specs.declared.changes.Entry.{Entry}
 use Rattle.check_workers.proofs.WorkersMade.{new_passes_length}

@@ -1,7 +1,7 @@
 use Rattle.std.proofs.Common.{◌≡◌, ◌+◌, length, vec_len, map, All}
 use Rattle.std.specs.VecDeque.{deque_len}
 use Rattle.bim_net.specs.Hosts.{AreNew}
-use Rattle.book_turn.specs.Numbers.{numbers_from}
+use Rattle.book_turn.specs.NumberLists.{numbers_from}
 use Rattle.book_turn.specs.Passes.{new_passes}
 use Rattle.serve_lanes.specs.Histories.{IsReady, TellsOne}
 use Rattle.serve_lanes.proofs.lanes.make_lanes.Given as goal

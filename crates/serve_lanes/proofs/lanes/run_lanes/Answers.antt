@@ -1,5 +1,5 @@
 use Rattle.std.proofs.Common.{◌≡◌, ◌+◌, ℕ, length, vec_len, map, sym, ap, ◌∙◌, subst, arith}
-use Rattle.book_turn.specs.Numbers.{numbers_from}
+use Rattle.book_turn.specs.NumberLists.{numbers_from}
 use Rattle.check_workers.specs.Joins.{HasEach, AreOfLanes}
 use Rattle.serve_lanes.proofs.Joining.{numbered_length, numbered_alike}
 use Rattle.serve_lanes.proofs.lanes.run_lanes.Goals as goal

@@ -1,5 +1,5 @@
 use Rattle.std.proofs.Common.{Option, inl, inr, refl, subst, arith}
-use Rattle.bim_io.specs.Seen.{outside}
+use Rattle.bim_io.specs.StreamViews.{outside}
 use Rattle.server_commands.specs.declared.replay_words.ReplayWords.{ReplayWords}
 use Rattle.server_commands.specs.Commands.{Does}
 use Rattle.batch_commands.proofs.Answered.{unread_status, unwritten_status}

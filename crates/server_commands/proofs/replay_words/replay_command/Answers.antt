@@ -1,8 +1,8 @@
 use Rattle.std.proofs.Common.{◌≡◌, ◌∙◌, ap, codes}
 use Rattle.std.proofs.lemmas.Result.{IfOk-weaker}
 use Rattle.clap.specs.Words.{App, app_of, with_rule}
-use Rattle.command_words.specs.Words.{bare_command, option_of}
-use Rattle.server_commands.specs.Words.{replay_command}
+use Rattle.command_words.specs.CommandOptions.{bare_command, option_of}
+use Rattle.server_commands.specs.ReplayWords.{replay_command}
 use Rattle.server_commands.proofs.replay_words.replay_command.Goals as goal
 
 pub returns : goal.returns

@@ -1,8 +1,8 @@
 use Rattle.std.proofs.Common.{◌∙◌, sym, ap, map, subst}
 use Rattle.clap.specs.Words.{App, app_of}
-use Rattle.command_words.specs.Words.{IsPlainCommand}
+use Rattle.command_words.specs.CommandOptions.{IsPlainCommand}
 use Rattle.command_words.proofs.Grammar.{words_refused, words_said}
-use Rattle.server_commands.specs.Words.{replay_command, replay_said}
+use Rattle.server_commands.specs.ReplayWords.{replay_command, replay_said}
 use Rattle.server_commands.proofs.Grammar.{replay_is_plain}
 use Rattle.server_commands.proofs.replay_words.replay_words.Goals as goal
 

@@ -1,6 +1,6 @@
 use Rattle.std.proofs.Common.{Option, inl, inr, subst, refl, arith}
 use Rattle.server_commands.specs.declared.serve_words.ServeWords.{ServeWords}
-use Rattle.server_commands.specs.Serving.{ServesBy}
+use Rattle.server_commands.specs.ServeCommand.{ServesBy}
 use Rattle.server_commands.proofs.Serving.{none_spent, served_fault, without_four}
 use Rattle.server_commands.proofs.serve.run_serve.Goals as goal
 

@@ -1,4 +1,4 @@
-use Rattle.server_commands.specs.Serving.{service_of}
+use Rattle.server_commands.specs.ServeCommand.{service_of}
 use Rattle.server_commands.proofs.serve.serve.Given as goal
 
 abbrev pub ghosts-serve_doors : goal.ghosts-serve_doors

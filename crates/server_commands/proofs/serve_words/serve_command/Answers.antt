@@ -1,7 +1,7 @@
 use Rattle.std.proofs.Common.{◌≡◌, ◌∙◌, ap, codes}
 use Rattle.std.proofs.lemmas.Result.{IfOk-weaker}
 use Rattle.clap.specs.Words.{App, app_of, with_rule}
-use Rattle.command_words.specs.Words.{bare_command, option_of}
+use Rattle.command_words.specs.CommandOptions.{bare_command, option_of}
 use Rattle.server_commands.specs.ServeWords.{serve_command}
 use Rattle.server_commands.proofs.serve_words.serve_command.Goals as goal
 

@@ -1,6 +1,6 @@
 use Rattle.std.proofs.Common.{◌∙◌, sym, ap, map, subst}
 use Rattle.clap.specs.Words.{App, app_of}
-use Rattle.command_words.specs.Words.{IsPlainCommand}
+use Rattle.command_words.specs.CommandOptions.{IsPlainCommand}
 use Rattle.command_words.proofs.Grammar.{words_refused}
 use Rattle.server_commands.specs.ServeWords.{serve_command, serve_said}
 use Rattle.server_commands.proofs.ServeGrammar.{serve_is_plain, words_served}

@@ -1,6 +1,6 @@
 use Rattle.std.proofs.Common.{arith, ℤ, pos, ◌≤ℤ◌, ◌<ℤ◌, ◌≤◌, unsigned_abs}
 use Rattle.std.proofs.lemmas.Int.{ints}
-use Rattle.tri_exact.specs.Places.{at, face_at}
+use Rattle.tri_exact.specs.GridVectors.{at, face_at}
 use Rattle.tri_exact.specs.Pierce.{weight_a, weight_b}
 use Rattle.exact_arith.proofs.Ranges.{Kept, value_kept, kept_128, in_128, renamed, less, not_less, at_most, above, zero_kept, test_kept}
 use Rattle.tri_exact.proofs.crossing.rises.Goals as goal

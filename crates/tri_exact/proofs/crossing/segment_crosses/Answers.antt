@@ -1,5 +1,5 @@
 use Rattle.std.proofs.Common.{inl, inr, refl}
-use Rattle.tri_exact.specs.Places.{at, face_at}
+use Rattle.tri_exact.specs.GridVectors.{at, face_at}
 use Rattle.tri_exact.proofs.Choice.{any_three, not_both}
 use Rattle.tri_exact.proofs.CrossTest.{meets_tests, tests_meet}
 use Rattle.tri_exact.proofs.crossing.segment_crosses.Goals as goal

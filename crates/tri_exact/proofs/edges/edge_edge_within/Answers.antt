@@ -1,6 +1,6 @@
 use Rattle.std.proofs.Common.{◌≡◌, pos, ◌*ℤ◌, ◌↔◌, Bool, IsTrue, true, false, refl, sym, ◌∙◌, ℕ}
 use Rattle.exact_arith.specs.Space.{Vector}
-use Rattle.tri_exact.specs.Places.{at}
+use Rattle.tri_exact.specs.GridVectors.{at}
 use Rattle.tri_exact.specs.Within.{PointEdgeWithin, EdgesWithin}
 use Rattle.tri_exact.specs.Edges.{LinesClose}
 use Rattle.tri_exact.proofs.TwoEdges.{EdgesFound, lines, end_a, end_b, end_p, end_q, edges_found}

@@ -1,7 +1,7 @@
 use Rattle.std.proofs.Common.{◌≡◌, arith, ℤ, pos, ◌+ℤ◌, ◌-ℤ◌, ◌*ℤ◌, ◌≤ℤ◌, ◌<ℤ◌, ◌≤◌, unsigned_abs, ◌∙◌, ap, sym, refl, subst, [], ◌∷◌}
 use Rattle.std.proofs.lemmas.Int.{ints}
 use Rattle.exact_arith.specs.Space.{Vector, dot_of}
-use Rattle.tri_exact.specs.Places.{at}
+use Rattle.tri_exact.specs.GridVectors.{at}
 use Rattle.tri_exact.specs.Foot.{square_of, along_of, across_of}
 use Rattle.exact_arith.proofs.Ring.{ring, ◌⊖◌, ◌⊗◌}
 use Rattle.exact_arith.proofs.Triples.{spot, scalar, crossed}

@@ -1,7 +1,7 @@
 use Rattle.std.proofs.Common.{◌≡◌, ◌↔◌, ℕ, ℤ, pos, ◌*ℤ◌, ◌∙◌, to_z, ◌*◌, ◌≤◌, subst, arith}
 use mir.Syntax.{w64}
 use Rattle.exact_arith.specs.Space.{minus, dot_of}
-use Rattle.tri_exact.specs.Places.{at}
+use Rattle.tri_exact.specs.GridVectors.{at}
 use Rattle.tri_exact.specs.Edges.{Beside}
 use Rattle.exact_arith.proofs.Ranges.{Kept, value_kept, value_kept_64, natural_kept_64, product_kept, difference_kept, sum_kept, kept_64, fits_64, test_kept, in_64, renamed, at_most, above, zero_kept}
 use Rattle.tri_exact.proofs.PointEdge.{start_exact, end_exact, inside_exact}

@@ -1,6 +1,6 @@
 use Rattle.std.proofs.Common.{◌≡◌, arith, ℤ, pos, ◌+ℤ◌, ◌-ℤ◌, ◌≤ℤ◌, ◌<ℤ◌, ◌≤◌, unsigned_abs, ◌∙◌, sym}
 use Rattle.std.proofs.lemmas.Int.{ints}
-use Rattle.tri_exact.specs.Places.{at}
+use Rattle.tri_exact.specs.GridVectors.{at}
 use Rattle.tri_exact.specs.Foot.{square_of, along_of, across_of}
 use Rattle.tri_exact.proofs.FootTest.{binet_first, binet_second}
 use Rattle.exact_arith.proofs.Ranges.{Kept, value_kept, sum_kept, kept_128, in_128, in_64, renamed, less, not_less, zero_kept, fits_128, test_kept, same_64, difference_of_products}

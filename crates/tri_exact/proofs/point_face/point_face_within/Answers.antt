@@ -1,6 +1,6 @@
 use Rattle.std.proofs.Common.{◌≡◌, ◌↔◌, pos, ◌*ℤ◌, ◌∙◌, ap, subst}
 use Rattle.exact_arith.specs.Space.{Vector, minus, cross_of}
-use Rattle.tri_exact.specs.Places.{at, face_at, straight}
+use Rattle.tri_exact.specs.GridVectors.{at, face_at, straight}
 use Rattle.tri_exact.specs.Foot.{Inside, square_of, height_of}
 use Rattle.exact_arith.proofs.Ranges.{Kept, value_kept, kept_128, in_128, renamed, squares_kept}
 use Rattle.tri_exact.proofs.Choice.{not_both, both_products}

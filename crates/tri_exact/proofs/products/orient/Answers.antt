@@ -1,6 +1,6 @@
 use Rattle.std.proofs.Common.{◌≡◌, ◌∙◌, ap, [], ◌∷◌, refl}
 use Rattle.exact_arith.specs.Space.{Vector, dot_of, cross_of, minus}
-use Rattle.tri_exact.specs.Places.{at, straight}
+use Rattle.tri_exact.specs.GridVectors.{at, straight}
 use Rattle.exact_arith.proofs.Ring.{ring}
 use Rattle.exact_arith.proofs.Triples.{scalar, spot}
 use Rattle.exact_arith.proofs.Ranges.{kept_128, value_kept}

@@ -4,7 +4,7 @@ use Rattle.bim_model.specs.Points.{IsGridPoint}
 use Rattle.p21_values.specs.declared.value.Value21.{Value21}
 use Rattle.ear_cut.specs.Areas.{point_at}
 use Rattle.ear_cut.specs.Removal.{cut_of}
-use Rattle.faceset.specs.Sets.{NamesPoint}
+use Rattle.faceset.specs.FaceSets.{NamesPoint}
 use Rattle.walk_rows.specs.Rows.{row_at}
 use Rattle.walk_rows.proofs.EarRows.{face_added, corners_grid}
 use Rattle.walk_rows.proofs.face_rows.add_face.Goals as goal

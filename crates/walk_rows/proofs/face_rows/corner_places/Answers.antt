@@ -1,6 +1,6 @@
 use Rattle.std.proofs.Common.{length, ap, arith}
 use Rattle.std.proofs.lemmas.List.{length_push}
-use Rattle.faceset.specs.Sets.{NamesPoint}
+use Rattle.faceset.specs.FaceSets.{NamesPoint}
 use Rattle.faceset.proofs.Zips.{zip_push}
 use Rattle.walk_rows.proofs.face_rows.corner_places.Goals as goal
 

@@ -1,7 +1,7 @@
 use Rattle.std.proofs.Common.{List, Option, ◌≤◌, length, option_copied}
 use Rattle.std.specs.List.{AllZip}
 use Rattle.p21_values.specs.declared.value.Value21.{Value21}
-use Rattle.faceset.specs.Sets.{NamesPoint, most_corners}
+use Rattle.faceset.specs.FaceSets.{NamesPoint, most_corners}
 use Rattle.walk_rows.specs.Rows.{AreNumbers}
 use Rattle.walk_rows.proofs.face_rows.corner_places.Given as goal
 

@@ -6,7 +6,7 @@ use Rattle.std.proofs.lemmas.List.Elements.{All-push}
 use Rattle.p21_values.specs.declared.value.Value21.{Value21}
 use Rattle.p21_values.specs.Attributes.{led_to}
 use Rattle.p21_values.proofs.Turns.{ended}
-use Rattle.faceset.specs.Sets.{IsCut, Joined}
+use Rattle.faceset.specs.FaceSets.{IsCut, Joined}
 use Rattle.faceset.proofs.FaceLists.{joined_more}
 use Rattle.walk_rows.specs.Rows.{triangle_at, triangles_at}
 use Rattle.walk_rows.specs.SetRows.{LeadsToFace}

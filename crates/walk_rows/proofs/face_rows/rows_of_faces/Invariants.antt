@@ -2,7 +2,7 @@ use Rattle.std.proofs.Common.{List, Option, length, option_copied}
 use Rattle.std.specs.List.{All}
 use Rattle.p21_values.specs.declared.value.Value21.{Value21}
 use Rattle.p21_values.specs.Attributes.{led_to}
-use Rattle.faceset.specs.Sets.{Joined, IsCut}
+use Rattle.faceset.specs.FaceSets.{Joined, IsCut}
 use Rattle.walk_rows.specs.Rows.{AreNumbers, triangles_at}
 use Rattle.walk_rows.specs.SetRows.{LeadsToFace}
 use Rattle.walk_rows.proofs.face_rows.rows_of_faces.Given as goal

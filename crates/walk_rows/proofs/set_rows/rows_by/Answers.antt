@@ -1,7 +1,7 @@
 use Rattle.std.proofs.Common.{length, sym, ◌∙◌}
 use Rattle.std.specs.List.{All, AllZip}
 use Rattle.p21_values.specs.Attributes.{led_to}
-use Rattle.faceset.specs.Sets.{IsCut, Joined, SetTriangles, numbering}
+use Rattle.faceset.specs.FaceSets.{IsCut, Joined, SetTriangles, numbering}
 use Rattle.walk_rows.specs.Rows.{triangles_at, IsRowOf}
 use Rattle.walk_rows.specs.SetRows.{LeadsToFace, NamesFaces}
 use Rattle.walk_rows.proofs.FacesNamed.{faces_named, none_named}

@@ -1,6 +1,6 @@
 use Rattle.std.proofs.Common.{List, Option, length, sym, ◌∙◌, subst}
 use Rattle.p21_values.specs.declared.value.Value21.{Value21}
-use Rattle.faceset.specs.Sets.{numbering}
+use Rattle.faceset.specs.FaceSets.{numbering}
 use Rattle.walk_rows.specs.SetRows.{NamesPoints}
 use Rattle.walk_rows.proofs.IndexesNamed.{each_names}
 use Rattle.walk_rows.proofs.SetsRead.{some_all}

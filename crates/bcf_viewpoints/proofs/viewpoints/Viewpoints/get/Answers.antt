@@ -1,4 +1,4 @@
-use Rattle.bcf_viewpoints.specs.Views.{view_of}
+use Rattle.bcf_viewpoints.specs.Viewpoints.{view_of}
 use Rattle.bcf_viewpoints.proofs.Kept.{lent_kept}
 use Rattle.bcf_viewpoints.proofs.viewpoints.Viewpoints.get.Goals as goal
 

@@ -1,5 +1,5 @@
 use Rattle.std.proofs.Common.{◌≡◌, List, ℕ}
-use Rattle.bim_files.specs.Memory.{LentState, fresh_source}
+use Rattle.bim_files.specs.MemoryFiles.{LentState, fresh_source}
 use Rattle.bim_files.proofs.Lending.{lends_first, ok_gives, pushed}
 use Rattle.bim_files.proofs.memory_files.MemFiles.lend.Goals as goal
 

@@ -1,4 +1,4 @@
-use Rattle.bim_net.specs.Seen.{ended_link}
+use Rattle.bim_net.specs.ConnectionViews.{ended_link}
 use Rattle.bim_net.specs.Stores.{mem_seen}
 use Rattle.bim_net.proofs.Keeping.{back_faults}
 use Rattle.bim_net.proofs.memory_doors.MemDoorDoor.give_back.Goals as goal

@@ -1,7 +1,7 @@
 use Rattle.std.proofs.Common.{Some, refl, sym, ap, ◌∙◌}
 use Rattle.book_history.specs.declared.requests.BookRequest.TheVariants.{ReadClashes}
 use Rattle.book_history.specs.declared.requests.Wanted.{Wanted}
-use Rattle.bim_session.specs.Notes.{AsksKept}
+use Rattle.bim_session.specs.ShelfNotes.{AsksKept}
 use Rattle.bim_session.proofs.notes.Notes.reply_to.Goals as goal
 
 pub returns-in_ok-share-in-ReadClashes-clause-kept : goal.returns-in_ok-share-in-ReadClashes-clause-kept

@@ -1,6 +1,6 @@
 use Rattle.std.proofs.Common.{◌≡◌, ℕ, pos, ◌*◌, ◌^◌, arith, ap, ◌∙◌, subst, sym}
 use Rattle.std.proofs.lemmas.Int.{ints}
-use Rattle.bim_text.specs.Values.{signed, SameValue}
+use Rattle.bim_text.specs.ScaledNumbers.{signed, SameValue}
 use Rattle.bim_text.proofs.Powers.{same_value, same_zero}
 use Rattle.bim_text.proofs.decimal.Decimal.of.Goals as goal
 

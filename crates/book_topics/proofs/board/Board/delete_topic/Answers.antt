@@ -1,6 +1,6 @@
 use Rattle.std.proofs.Common.{IsSome, sym, ap, ap₂, ◌∙◌, subst}
 use Rattle.bcf_topics.specs.Discussions.{Discussion}
-use Rattle.bcf_viewpoints.specs.Views.{Views}
+use Rattle.bcf_viewpoints.specs.Viewpoints.{Views}
 use Rattle.book_topics.specs.Boards.{BoardState, topic_at, topic_removed}
 use Rattle.book_topics.proofs.Boards.{board, topic_removed_is, topic_unrefused, no_error}
 use Rattle.book_topics.proofs.board.Board.delete_topic.Goals as goal

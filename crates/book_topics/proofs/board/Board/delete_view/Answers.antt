@@ -1,5 +1,5 @@
 use Rattle.std.proofs.Common.{IsSome, sym, ap, ◌∙◌, subst}
-use Rattle.bcf_viewpoints.specs.Views.{Views}
+use Rattle.bcf_viewpoints.specs.Viewpoints.{Views}
 use Rattle.book_topics.specs.Boards.{BoardState, view_at, view_removed}
 use Rattle.book_topics.proofs.Boards.{board, view_removed_is, view_unrefused}
 use Rattle.book_topics.proofs.board.Board.delete_view.Goals as goal

@@ -1,7 +1,7 @@
 use Rattle.std.proofs.Common.{◌+◌, sym, ap, ap₂, ◌∙◌, subst, arith}
 use Rattle.bcf_topics.specs.Discussions.{Discussion}
 use Rattle.bcf_viewpoints.specs.declared.view.ViewBody.{ViewBody}
-use Rattle.bcf_viewpoints.specs.Views.{Views, IsViewBody, views_off}
+use Rattle.bcf_viewpoints.specs.Viewpoints.{Views, IsViewBody, views_off}
 use Rattle.book_topics.specs.Boards.{BoardState, topic_added, view_added}
 use Rattle.book_topics.specs.OfClashes.{clash_body, clash_topic, clash_added}
 use Rattle.book_topics.proofs.Boards.{board, below_next, clash_view_good, clash_added_is, taken_back}

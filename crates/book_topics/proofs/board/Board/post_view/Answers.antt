@@ -1,6 +1,6 @@
 use Rattle.std.proofs.Common.{◌+◌, IsSome, sym, ap, ◌∙◌, subst, arith}
 use Rattle.bcf_viewpoints.specs.declared.view.ViewBody.{ViewBody}
-use Rattle.bcf_viewpoints.specs.Views.{Views, IsViewBody, viewpoint}
+use Rattle.bcf_viewpoints.specs.Viewpoints.{Views, IsViewBody, viewpoint}
 use Rattle.book_topics.specs.Boards.{BoardState, next_serial, topic_at, view_added}
 use Rattle.book_topics.proofs.Boards.{board, topic_made, view_added_is}
 use Rattle.book_topics.proofs.Errors.{on_err}

@@ -2,7 +2,7 @@ use Rattle.std.proofs.Common.{Some, sym, ap, ◌∙◌, subst}
 use Rattle.std.specs.Option.{option_map}
 use Rattle.bcf_viewpoints.specs.declared.view.ViewBody.{ViewBody}
 use Rattle.bcf_viewpoints.specs.declared.view.ViewIs.{ViewIs}
-use Rattle.bcf_viewpoints.specs.Views.{IsViewBody, viewpoint}
+use Rattle.bcf_viewpoints.specs.Viewpoints.{IsViewBody, viewpoint}
 use Rattle.book_topics.specs.Boards.{BoardState, view_at}
 use Rattle.book_topics.proofs.board.Board.view.Goals as goal
 

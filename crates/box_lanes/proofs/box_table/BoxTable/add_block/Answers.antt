@@ -1,7 +1,7 @@
 use Rattle.std.proofs.Common.{◌≡◌, ◌+◌, ◌-◌, ◌*◌, ◌/◌, ◌%◌, ◌^◌, ◌≤◌, ◌++◌, length, map, take, drop, sym, ap, ◌∙◌, arith, append-nil}
 use Rattle.std.specs.Prelude.{min}
 use lib.Lanes.{mask_l}
-use Rattle.box_lanes.specs.Lanes.{meets, may_meet}
+use Rattle.box_lanes.specs.CoarseBoxes.{meets, may_meet}
 use Rattle.box_lanes.proofs.Coarse.{none_meets, shifted_out}
 use Rattle.box_lanes.proofs.Places.{finished}
 use Rattle.box_lanes.proofs.Bits.{bits_of, part_none, part_done}

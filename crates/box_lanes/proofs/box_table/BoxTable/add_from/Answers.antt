@@ -1,8 +1,8 @@
 use Rattle.std.proofs.Common.{◌≡◌, ◌+◌, ◌*◌, ◌/◌, ◌<◌, ◌++◌, length, sym, ap, ◌∙◌, arith, append_assoc}
 use Rattle.std.specs.Prelude.{min}
 use Rattle.box_lanes.proofs.Eights.{count_is}
-use Rattle.box_lanes.specs.Lanes.{meets}
-use Rattle.box_lanes.specs.Places.{part}
+use Rattle.box_lanes.specs.CoarseBoxes.{meets}
+use Rattle.box_lanes.specs.BoxPlaces.{part}
 use Rattle.box_lanes.proofs.Bits.{part_more}
 use Rattle.box_lanes.proofs.box_table.BoxTable.add_from.Goals as goal
 

@@ -1,7 +1,7 @@
 use Rattle.std.proofs.Common.{◌≡◌, ◌+◌, ◌-◌, ◌*◌, ◌<◌, ◌≤◌, ◌++◌, length}
 use Rattle.std.specs.Prelude.{min}
-use Rattle.box_lanes.specs.Lanes.{meets}
-use Rattle.box_lanes.specs.Places.{part}
+use Rattle.box_lanes.specs.CoarseBoxes.{meets}
+use Rattle.box_lanes.specs.BoxPlaces.{part}
 use Rattle.box_lanes.proofs.box_table.BoxTable.add_from.Given as goal
 
 abbrev pub invariant-loop-block : goal.invariant-loop-block

@@ -3,9 +3,9 @@ use Rattle.bim_model.specs.declared.geometry.Extent.{Extent}
 use Rattle.box_lanes.proofs.Eights.{few_in}
 use lib.Count.{count_trailing_zeros}
 use lib.Lanes.{mask_l}
-use Rattle.box_lanes.specs.Lanes.{meets}
+use Rattle.box_lanes.specs.CoarseBoxes.{meets}
 use Rattle.box_lanes.proofs.Places.{next, finished}
-use Rattle.box_lanes.specs.Places.{part}
+use Rattle.box_lanes.specs.BoxPlaces.{part}
 use Rattle.box_lanes.proofs.Bits.{part_none, part_next, part_done}
 use Rattle.box_lanes.proofs.box_table.BoxTable.add_part.Goals as goal
 

@@ -1,8 +1,8 @@
 use Rattle.std.proofs.Common.{◌≡◌, ◌++◌, ◌≤◌, map}
 use lib.Lanes.{mask_l}
-use Rattle.box_lanes.specs.Lanes.{meets}
+use Rattle.box_lanes.specs.CoarseBoxes.{meets}
 use Rattle.box_lanes.proofs.Places.{rest_of}
-use Rattle.box_lanes.specs.Places.{part}
+use Rattle.box_lanes.specs.BoxPlaces.{part}
 use Rattle.box_lanes.proofs.box_table.BoxTable.add_part.Given as goal
 
 abbrev pub invariant-loop-lanes : goal.invariant-loop-lanes

@@ -1,7 +1,7 @@
 use Rattle.std.proofs.Common.{◌≡◌, ℕ, ◌-◌, ◌+◌, ◌*◌, ◌/◌, ◌%◌, ◌^◌, ◌<◌, ◌≤◌, bit_and, length, ap, ◌∙◌, arith}
 use Rattle.std.proofs.Math.Nat.{mod-eq_of_lt}
 use Rattle.std.proofs.lemmas.Nat.{and_mask, pow_below}
-use Rattle.box_lanes.specs.Lanes.{meets}
+use Rattle.box_lanes.specs.CoarseBoxes.{meets}
 use Rattle.box_lanes.proofs.Bits.{bits_of}
 use Rattle.box_lanes.proofs.box_table.BoxTable.bits.Goals as goal
 

@@ -3,7 +3,7 @@ use Rattle.std.proofs.lemmas.List.{length-drop}
 use lib.Lanes.{mask_l}
 use Rattle.bim_model.specs.declared.geometry.Extent.{Extent}
 use Rattle.box_lanes.specs.declared.blocks.Block.{Block}
-use Rattle.box_lanes.specs.Lanes.{may_meet, coarse}
+use Rattle.box_lanes.specs.CoarseBoxes.{may_meet, coarse}
 use Rattle.box_lanes.specs.Blocks.{boxes_in, padded, IsBlock}
 use Rattle.box_lanes.proofs.Coarse.{coarse_fits, all_fit}
 use Rattle.box_lanes.proofs.Eights.{block_at, block_in, length_padded, padded_bits}

@@ -4,7 +4,7 @@ use Rattle.std.proofs.lemmas.List.{length-drop}
 use lib.Lanes.{mask_l}
 use Rattle.bim_model.specs.declared.geometry.Extent.{Extent}
 use Rattle.box_lanes.specs.declared.blocks.Block.{Block}
-use Rattle.box_lanes.specs.Lanes.{meets, Fits32}
+use Rattle.box_lanes.specs.CoarseBoxes.{meets, Fits32}
 use Rattle.box_lanes.specs.Blocks.{boxes_in, padded, IsBlock}
 use Rattle.box_lanes.proofs.Eights.{block_at, block_in, length_padded, padded_bits}
 use Rattle.box_lanes.proofs.Vectors.{Fit, far, far_list, far_fit, spans, and_also, masked}

@@ -1,7 +1,7 @@
 use Rattle.std.proofs.Common.{◌≡◌, ◌+◌, ◌++◌, ◌≤◌, length, drop, sym, ap, ◌∙◌, arith}
 use Rattle.std.proofs.lemmas.List.Elements.{All-weaker, All-drop}
-use Rattle.box_lanes.specs.Lanes.{meets, Fits32}
-use Rattle.box_lanes.specs.Places.{places_from, is_within_from}
+use Rattle.box_lanes.specs.CoarseBoxes.{meets, Fits32}
+use Rattle.box_lanes.specs.BoxPlaces.{places_from, is_within_from}
 use Rattle.box_lanes.proofs.Places.{places_agree}
 use Rattle.box_lanes.proofs.Eights.{none_left}
 use Rattle.box_lanes.proofs.box_table.BoxTable.later_within.Goals as goal

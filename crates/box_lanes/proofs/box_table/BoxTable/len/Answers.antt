@@ -1,6 +1,6 @@
 use Rattle.std.proofs.Common.{length, ap, subst, ◌∙◌}
 use Rattle.std.specs.List.{All}
-use Rattle.box_lanes.specs.Lanes.{Fits32}
+use Rattle.box_lanes.specs.CoarseBoxes.{Fits32}
 use Rattle.box_lanes.proofs.Eights.{fit}
 use Rattle.box_lanes.proofs.box_table.BoxTable.len.Goals as goal
 

@@ -1,6 +1,6 @@
 use Rattle.std.proofs.Common.{length, map, sym}
 use Rattle.std.proofs.lemmas.List.{length-map}
-use Rattle.box_lanes.specs.Places.{box_at}
+use Rattle.box_lanes.specs.BoxPlaces.{box_at}
 use Rattle.box_lanes.proofs.Eights.{boxes_are, blocks_are, count_are}
 use Rattle.box_lanes.proofs.box_table.BoxTable.refill.Goals as goal
 

@@ -7,8 +7,8 @@ use Rattle.bim_model.specs.declared.geometry.Extent.{Extent}
 use Rattle.bim_model.specs.declared.geometry.Point.{Point}
 use Rattle.std.proofs.lemmas.List.Elements.{All-weaker}
 use Rattle.bim_model.specs.Gaps.{gap, is_within}
-use Rattle.box_lanes.specs.Lanes.{meets, Fits32}
-use Rattle.box_lanes.specs.Places.{places_from, is_close_from, is_within_from}
+use Rattle.box_lanes.specs.CoarseBoxes.{meets, Fits32}
+use Rattle.box_lanes.specs.BoxPlaces.{places_from, is_close_from, is_within_from}
 use Rattle.box_lanes.proofs.Places.{places_agree}
 use Rattle.box_lanes.proofs.box_table.BoxTable.within.Goals as goal
 

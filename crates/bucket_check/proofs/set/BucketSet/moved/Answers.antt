@@ -3,7 +3,7 @@ use Rattle.bim_model.specs.Keys.{subjects_of}
 use Rattle.bim_model.specs.declared.geometry.Extent.{Extent}
 use Rattle.bucket_grid.specs.Grids.{GridValue}
 use Rattle.bucket_grid.specs.Subjects.{AreBoxes}
-use Rattle.bucket_check.specs.Sets.{SetValue, own_places, IsUnmoved}
+use Rattle.bucket_check.specs.ClashSets.{SetValue, own_places, IsUnmoved}
 use Rattle.bucket_check.proofs.Unmoved.{unmoved}
 use Rattle.bucket_check.proofs.set.BucketSet.moved.Goals as goal
 

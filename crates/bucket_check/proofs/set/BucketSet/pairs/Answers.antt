@@ -7,7 +7,7 @@ use Rattle.bucket_grid.specs.Cells.{members}
 use Rattle.bucket_grid.specs.Grids.{GridValue}
 use Rattle.bucket_grid.specs.Subjects.{AreBoxes}
 use Rattle.bucket_check.specs.Clashes.{own_clashes}
-use Rattle.bucket_check.specs.Sets.{SetValue, pair_at}
+use Rattle.bucket_check.specs.ClashSets.{SetValue, pair_at}
 use Rattle.bucket_check.proofs.Local.{found}
 use Rattle.bucket_check.proofs.set.BucketSet.pairs.Goals as goal
 

@@ -1,6 +1,6 @@
 use Rattle.std.proofs.Common.{◌≡◌, length, ap, sym, ◌∙◌}
 use Rattle.bucket_grid.specs.Subjects.{IsBoxOf}
-use Rattle.bucket_grid.specs.Places.{IsPlace}
+use Rattle.bucket_grid.specs.ElementPlaces.{IsPlace}
 use Rattle.bucket_grid.specs.Grids.{GridValue}
 use Rattle.bucket_grid.proofs.Zips.{zip_length}
 use Rattle.bucket_grid.proofs.grid.Grid.boxes.Goals as goal

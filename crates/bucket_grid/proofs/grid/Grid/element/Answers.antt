@@ -1,7 +1,7 @@
 use Rattle.std.proofs.Common.{◌≡◌, ◌<◌, List, length, get_or, refl, ap, sym, subst, ◌∙◌}
 use Rattle.bim_model.specs.Snapshots.{Version}
 use Rattle.bim_model.specs.declared.named_model.NamedModel.{NamedModel}
-use Rattle.bucket_grid.specs.Places.{IsPlace}
+use Rattle.bucket_grid.specs.ElementPlaces.{IsPlace}
 use Rattle.bucket_grid.proofs.Zips.{zip_length}
 use Rattle.bucket_grid.proofs.Found.{place_at, model_within, found_is}
 use Rattle.bucket_grid.proofs.grid.Grid.element.Goals as goal

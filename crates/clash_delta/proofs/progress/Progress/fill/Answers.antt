@@ -2,8 +2,8 @@ use Rattle.std.proofs.Common.{rules, of_calls, ◌≡◌, ℕ, List, length, get
 use Rattle.std.specs.Ordering.{nat_cmp}
 use Rattle.std.proofs.lemmas.Fn.{always_returns_same}
 use Rattle.clash_delta.specs.declared.slot.Slot.{Slot}
-use Rattle.clash_delta.specs.Slots.{undone_cells, filled}
-use Rattle.clash_delta.specs.Places.{IsPlaceOf}
+use Rattle.clash_delta.specs.BucketProgress.{undone_cells, filled}
+use Rattle.clash_delta.specs.BucketPlaces.{IsPlaceOf}
 use Rattle.clash_delta.proofs.Marked.{all, not_missing, still, one_fewer}
 use Rattle.clash_delta.proofs.progress.Progress.fill.Goals as goal
 

@@ -3,10 +3,10 @@ use Rattle.std.proofs.lemmas.List.{take_all}
 use Rattle.std.proofs.lemmas.Result.{IfOk-weaker}
 use Rattle.bucket_grid.specs.declared.cell.Cell.{Cell}
 use Rattle.bucket_grid.specs.declared.bucket_table.Bucket.{Bucket}
-use Rattle.bucket_grid.specs.Table.{IsTable}
+use Rattle.bucket_grid.specs.BucketTable.{IsTable}
 use Rattle.clash_delta.specs.declared.slot.Slot.{Slot}
-use Rattle.clash_delta.specs.Slots.{undone_cells, IsDone, IsOf}
-use Rattle.clash_delta.specs.Places.{Rise}
+use Rattle.clash_delta.specs.BucketProgress.{undone_cells, IsDone, IsOf}
+use Rattle.clash_delta.specs.BucketPlaces.{Rise}
 use Rattle.clash_delta.proofs.Fresh.{empty, empty_rise, empty_of, empty_none, empty_left}
 use Rattle.clash_delta.proofs.progress.Progress.fresh.Goals as goal
 

@@ -1,6 +1,6 @@
 use Rattle.std.proofs.Common.{List, get_or, subst, ap, ◌∙◌}
 use Rattle.clash_delta.specs.declared.slot.Slot.{Slot}
-use Rattle.clash_delta.specs.Places.{Rise}
+use Rattle.clash_delta.specs.BucketPlaces.{Rise}
 use Rattle.clash_delta.proofs.Marked.{done_told}
 use Rattle.clash_delta.proofs.progress.Progress.is_done.Goals as goal
 

@@ -1,6 +1,6 @@
 use Rattle.std.proofs.Common.{List, length, ap, ◌∙◌}
 use Rattle.clash_delta.specs.declared.slot.Slot.{Slot}
-use Rattle.clash_delta.specs.Slots.{undone_cells}
+use Rattle.clash_delta.specs.BucketProgress.{undone_cells}
 use Rattle.clash_delta.proofs.Undone.{undone_count}
 use Rattle.clash_delta.proofs.progress.Progress.left.Goals as goal
 

@@ -3,7 +3,7 @@ use Rattle.std.specs.List.Sorted.{IsSearchInRange, IsBinarySearchResult}
 use Rattle.std.proofs.lemmas.List.Sorted.{answers_always}
 use Rattle.bucket_grid.specs.Cells.{cell_cmp}
 use Rattle.clash_delta.specs.declared.slot.Slot.{Slot}
-use Rattle.clash_delta.specs.Places.{Rise}
+use Rattle.clash_delta.specs.BucketPlaces.{Rise}
 use Rattle.clash_delta.proofs.Searched.{found_at, found_nowhere}
 use Rattle.clash_delta.proofs.progress.Progress.place_of.Goals as goal
 

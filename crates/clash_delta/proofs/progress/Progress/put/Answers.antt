@@ -1,11 +1,11 @@
 use Rattle.std.proofs.Common.{◌≡◌, List, get_or, is_none, not, refl, sym, ap, subst, ◌∙◌}
 use Rattle.bucket_grid.specs.declared.cell.Cell.{Cell}
 use Rattle.bucket_check.specs.declared.bucket_work.BucketWork.{BucketWork}
-use Rattle.bucket_check.specs.Sets.{SetValue, own_places}
+use Rattle.bucket_check.specs.ClashSets.{SetValue, own_places}
 use Rattle.clash_delta.specs.declared.slot.Slot.{Slot}
 use Rattle.clash_delta.specs.declared.progress.PutAnswer.TheVariants.{Taken, AlreadyDone}
-use Rattle.clash_delta.specs.Slots.{IsBucketOf, IsOf}
-use Rattle.clash_delta.specs.Places.{Rise, IsPlaceOf}
+use Rattle.clash_delta.specs.BucketProgress.{IsBucketOf, IsOf}
+use Rattle.clash_delta.specs.BucketPlaces.{Rise, IsPlaceOf}
 use Rattle.std.proofs.lemmas.List.{get_or_default}
 use Rattle.clash_delta.proofs.Undone.{not_done_at}
 use Rattle.clash_delta.proofs.Filled.{none_filled, filled_of}

@@ -1,5 +1,5 @@
 use Rattle.std.proofs.Common.{◌≡◌, ◌<◌, List, length, get_or, map, take, Some, sym, ap, subst, arith, ◌∙◌}
-use Rattle.bucket_check.specs.Sets.{SetValue}
+use Rattle.bucket_check.specs.ClashSets.{SetValue}
 use Rattle.std.proofs.lemmas.List.{take_all}
 use Rattle.clash_delta.specs.declared.slot.Slot.{Slot}
 use Rattle.clash_delta.proofs.Gathered.{sets_more, some_at, sets_right}

@@ -1,5 +1,5 @@
 use Rattle.std.proofs.Common.{◌≡◌, map, take, Some}
-use Rattle.bucket_check.specs.Sets.{SetValue}
+use Rattle.bucket_check.specs.ClashSets.{SetValue}
 use Rattle.clash_delta.specs.declared.slot.Slot.{Slot}
 use Rattle.clash_delta.proofs.progress.Progress.sets.Given as goal
 

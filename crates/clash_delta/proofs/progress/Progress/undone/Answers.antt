@@ -2,7 +2,7 @@ use Rattle.std.proofs.Common.{◌≡◌, ◌<◌, List, length, get_or, None, So
 use Rattle.std.specs.List.{slice_get}
 use Rattle.bucket_grid.specs.declared.cell.Cell.{Cell}
 use Rattle.clash_delta.specs.declared.slot.Slot.{Slot}
-use Rattle.clash_delta.specs.Slots.{undone_cells, IsBucketOf, IsDone}
+use Rattle.clash_delta.specs.BucketProgress.{undone_cells, IsBucketOf, IsDone}
 use Rattle.clash_delta.proofs.Undone.{no_more}
 use Rattle.clash_delta.proofs.Marked.{IsLeft, left_inside, left_at}
 use Rattle.clash_delta.proofs.progress.Progress.undone.Goals as goal

@@ -4,7 +4,7 @@ use Rattle.bim_model.specs.Keys.{subjects_of}
 use Rattle.bim_model.specs.Snapshots.{Version}
 use Rattle.bim_model.specs.declared.named_model.NamedModel.{NamedModel}
 use Rattle.bucket_grid.specs.Grids.{GridValue}
-use Rattle.bucket_grid.specs.Places.{IsPlace}
+use Rattle.bucket_grid.specs.ElementPlaces.{IsPlace}
 use Rattle.bucket_grid.specs.Subjects.{nobody, subject_at}
 use Rattle.bucket_grid.proofs.Zips.{zip_length, zip_at}
 use Rattle.clash_publish.proofs.published.Published.model_name.Goals as goal

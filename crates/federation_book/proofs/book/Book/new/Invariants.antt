@@ -1,5 +1,5 @@
 use Rattle.std.proofs.Common.{◌≡◌, [], length}
-use Rattle.federation_book.specs.Kept.{KeepStates}
+use Rattle.federation_book.specs.KeptProjects.{KeepStates}
 use Rattle.federation_book.proofs.book.Book.new.Given as goal
 
 abbrev pub invariant-loop-number : goal.invariant-loop-number

@@ -1,6 +1,6 @@
 use Rattle.std.proofs.Common.{◌≡◌, ◌+◌, ◌-◌, get_or, subst, sym, arith}
 use Rattle.book_history.specs.History.{state_of}
-use Rattle.federation_book.specs.Kept.{KeepsProject}
+use Rattle.federation_book.specs.KeptProjects.{KeepsProject}
 use Rattle.federation_book.proofs.Keeping.{kept_at}
 use Rattle.federation_book.proofs.state.State.project.Goals as goal
 

@@ -4,7 +4,7 @@ use Rattle.book_history.specs.Projects.{with_change}
 use Rattle.book_history.specs.History.{state_of, left_in}
 use Rattle.book_history.specs.Weights.{text_of, triangles_of}
 use Rattle.book_history.specs.Refusals.{triangles_if, text_if, journal_if, left_after}
-use Rattle.federation_book.specs.Kept.{settings_of}
+use Rattle.federation_book.specs.KeptProjects.{settings_of}
 use Rattle.federation_book.proofs.Sizes.{third_is}
 use Rattle.federation_book.proofs.state.State.store_full.Goals as goal
 

@@ -1,7 +1,7 @@
 use Rattle.std.proofs.Common.{◌↔◌, subst, ap, ◌∙◌}
 use Rattle.bucket_grid.specs.declared.cell.Cell.{Cell}
 use Rattle.bucket_grid.specs.Grids.{GridValue}
-use Rattle.clash_delta.specs.Slots.{IsDone}
+use Rattle.clash_delta.specs.BucketProgress.{IsDone}
 use Rattle.clash_delta.specs.Carried.{IsCarried}
 use Rattle.book_history.specs.Versions.{VersionState, made_after}
 use Rattle.book_history.proofs.OneGrid.{HasParts}

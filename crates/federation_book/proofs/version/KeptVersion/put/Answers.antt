@@ -2,8 +2,8 @@ use Rattle.std.proofs.Common.{subst, sym, ap, ◌∙◌}
 use Rattle.bucket_grid.specs.Cells.{IsBucket}
 use Rattle.bucket_grid.specs.Grids.{GridValue}
 use Rattle.bucket_check.specs.declared.bucket_work.BucketWork.{BucketWork}
-use Rattle.bucket_check.specs.Sets.{SetValue}
-use Rattle.clash_delta.specs.Slots.{undone_cells}
+use Rattle.bucket_check.specs.ClashSets.{SetValue}
+use Rattle.clash_delta.specs.BucketProgress.{undone_cells}
 use Rattle.book_history.specs.Versions.{VersionState, with_done}
 use Rattle.book_history.proofs.OneGrid.{HasParts, one_grid}
 use Rattle.federation_book.proofs.Slots.{filled_left}

@@ -3,7 +3,7 @@ use Rattle.http_frame.specs.declared.stage.Stage.{Stage}
 use Rattle.http_frame.specs.declared.field_lines.Spot.TheVariants.{Before}
 use Rattle.http_frame.specs.Framers.{Stands}
 use Rattle.http_frame.specs.Scan.{spot_run}
-use Rattle.http_frame.specs.Stages.{StandsAt, is_before}
+use Rattle.http_frame.specs.FramerStages.{StandsAt, is_before}
 use Rattle.http_frame.proofs.Keeping.{safe_at, head_between, body_between, failed_between}
 use Rattle.http_frame.proofs.framer.Framer.is_between.Goals as goal
 

@@ -1,7 +1,7 @@
 use Rattle.std.proofs.Common.{sym, subst}
 use Rattle.http_frame.specs.declared.stage.Stage.{Stage}
 use Rattle.http_frame.specs.Framers.{Stands}
-use Rattle.http_frame.specs.Stages.{Steps, StandsAt, IsSafe}
+use Rattle.http_frame.specs.FramerStages.{Steps, StandsAt, IsSafe}
 use Rattle.http_frame.proofs.framer.Framer.next.Goals as goal
 
 pub step-stepped-requires : goal.step-stepped-requires

@@ -1,6 +1,6 @@
 use Rattle.std.proofs.Common.{Some, sym, ap, ◌∙◌, option_map}
 use Rattle.std.proofs.lemmas.Result.{on_ok_weaker}
-use Rattle.ifc_elements.specs.Texts.{name_of}
+use Rattle.ifc_elements.specs.ElementTexts.{name_of}
 use Rattle.ifc_elements.proofs.NamesKept.{names_put}
 use Rattle.ifc_elements.proofs.storey_names.Names.add.Goals as goal
 

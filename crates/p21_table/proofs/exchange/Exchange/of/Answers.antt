@@ -1,6 +1,6 @@
 use Rattle.std.proofs.Common.{List, ◌≤◌, length, sym, subst}
 use Rattle.p21_values.specs.Counting.{values_of}
-use Rattle.p21_values.specs.Places.{Rises}
+use Rattle.p21_values.specs.InstancePlaces.{Rises}
 use Rattle.p21_values.specs.declared.limits.TheConstants.{MOST_INSTANCES, MOST_VALUES}
 use Rattle.p21_values.specs.declared.value.Instance.{Instance}
 use Rattle.p21_values.proofs.Stood.{world_told}

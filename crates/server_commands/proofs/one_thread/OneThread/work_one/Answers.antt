@@ -4,7 +4,7 @@ use Rattle.book_history.specs.declared.requests.BookRequest.TheVariants.{TakeWor
 use Rattle.book_history.specs.Legal.{IsLegal}
 use Rattle.bim_session.specs.Works.{IsFoundFor}
 use Rattle.server_commands.specs.Turns.{ServerState, with_turn}
-use Rattle.server_commands.specs.Working.{GivesOut}
+use Rattle.server_commands.specs.BucketWork.{GivesOut}
 use Rattle.server_commands.proofs.Giving.{gives_some, set_legal}
 use Rattle.server_commands.proofs.one_thread.OneThread.work_one.Goals as goal
 
