@@ -152,11 +152,6 @@ scale_made world assignment unit id scale only found h =
     let u : h.unit ≡ unit = cc in
     subst (λ w. MakesScale world w scale) u h.makes
 
-pub scale_some : (world : List Instance) (assignment unit : Instance) (id : ℕ) (r : Option Scale) → IsOnly (IsUnitAmong world (listed assignment 0)) id → look world id ≡ Some unit → IfSome r (MakesScale world unit)
-    → IfSome r (AssignsScale world assignment)
-scale_some world assignment unit id None only found h = tt
-scale_some world assignment unit id (Some scale) only found h = record { id = id; one_unit = only; unit = unit; found = found; makes = h }
-
 pub scale_none : (world : List Instance) (assignment unit : Instance) (id : ℕ) (r : Option Scale) → IsOnly (IsUnitAmong world (listed assignment 0)) id → look world id ≡ Some unit
     → IfNone r ((scale : Scale) → MakesScale world unit scale → ⊥) → IfNone r ((scale : Scale) → AssignsScale world assignment scale → ⊥)
 scale_none world assignment unit id (Some scale) only found h = tt
@@ -184,13 +179,6 @@ pub unit_none : (world : List Instance) (project assignment : Instance) (r : Opt
     → IfNone r ((scale : Scale) → AssignsScale world assignment scale → ⊥) → IfNone r ((scale : Scale) → IsLengthUnit world scale → ⊥)
 unit_none world project assignment (Some scale) one is h = tt
 unit_none world project assignment None one is h = λ scale k. h scale (same_assignment world project assignment scale one is k)
-
-pub unassigned : (world : List Instance) (project : Instance) (scale : Scale) → projects world ≡ project ∷ [] → assignment_of world project ≡ None → IsLengthUnit world scale → ⊥
-unassigned world project scale one is h =
-    let o = h.one_project in
-    let p : h.project ≡ project = cc in
-    let a : assignment_of world project ≡ Some h.assignment = subst (λ q. assignment_of world q ≡ Some h.assignment) p h.assigned in
-    cc
 
 pub one_unit : (world : List Instance) (a b : Scale) → IsLengthUnit world a → IsLengthUnit world b → a ≡ b
 one_unit world a b h k = one_scale world k.assignment a b (same_assignment world k.project k.assignment a k.one_project k.assigned h) k.makes
