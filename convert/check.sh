@@ -21,8 +21,8 @@ need() { # COMMAND-OR-FILE PACKAGE ..
     thing=$1
     shift
     command -v "$thing" >/dev/null 2>&1 || [ -e "$thing" ] && return
-    apt-get install -y -qq "$@" >"$work/apt.log" 2>&1 ||
-        { apt-get update -qq && apt-get install -y -qq "$@"; } >>"$work/apt.log" 2>&1 ||
+    apt-get -o DPkg::Lock::Timeout=300 install -y -qq "$@" >"$work/apt.log" 2>&1 ||
+        { apt-get update -qq && apt-get -o DPkg::Lock::Timeout=300 install -y -qq "$@"; } >>"$work/apt.log" 2>&1 ||
         { echo "check.sh: can't install $*: $(tail -1 "$work/apt.log")" >&2; exit 2; }
 }
 

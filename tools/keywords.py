@@ -1,5 +1,5 @@
 #!/usr/bin/env python3
-"""Makes the tables of ifc_keywords anew: python3 tools/keywords.py [--search].
+"""Makes the tables of ifc_keywords anew: python3 -m tools.keywords [--search].
 
 The keywords are listed in crates/ifc_keywords/specs/Codes.antt, in the order of their numbers. The
 list and the table of hashes in src/known_words.rt are written from it. A word's hash is (A * its

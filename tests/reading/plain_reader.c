@@ -1,9 +1,9 @@
-/* A plain reader of IFC files, with no proof: what bench/reading.py compares the reading of `check` with.
+/* A plain reader of IFC files, with no proof: what tests/reading compares the reading of `check` with.
 
    plain_reader FILE prints `read_cold_s`, the seconds from the bytes in memory to the triangles of all elements,
    and how many of both there are. One pass over the bytes makes a flat table of cells of eight bytes, in which each number is
-   read at once; instances stand in a table by their numbers. It reads triangulated sets in millimetres, without placements,
-   and stops at whatever else it meets. */
+   read at once; instances stand in a table by their numbers. It reads triangulated sets in millimetres, onto a grid of tenths,
+   without placements, and stops at whatever else it meets. */
 #define _GNU_SOURCE
 #include <stdint.h>
 #include <stdio.h>
@@ -304,12 +304,16 @@ static int says(uint32_t place, const char *wanted)
     return (cells[place] & 7) == PLACE && !strncmp((const char *)bytes + (cells[place] >> 3), wanted, strlen(wanted));
 }
 
-static inline int64_t whole(cell value)
+/* A number times ten to so many places, which has to be whole. */
+static inline int64_t whole(cell value, int places)
 {
     if ((value & 7) != NUMBER)
         stop("no number");
     int64_t read = (int64_t)value >> 8;
-    for (int places_left = value >> 3 & 31; places_left; places_left--) {
+    int places_left = (int)(value >> 3 & 31) - places;
+    for (; places_left < 0; places_left++)
+        read *= 10;
+    for (; places_left > 0; places_left--) {
         if (read % 10)
             stop("a length between the grid's");
         read /= 10;
@@ -342,7 +346,7 @@ static uint32_t read_points(uint32_t place)
         if (*from != THREE)
             stop("no three numbers");
         for (int k = 0; k < 3; k++) {
-            int64_t read = whole(from[k + 1]);
+            int64_t read = whole(from[k + 1], 1);
             if (read > 8000000 || read < -8000000)
                 stop("a point far away");
             points[i][k] = read;
@@ -359,7 +363,7 @@ static void read_triangles(uint32_t place, uint32_t all_points)
         if (*from != THREE)
             stop("no three indexes");
         for (int k = 0; k < 3; k++) {
-            uint64_t index = (uint64_t)whole(from[k + 1]) - 1;
+            uint64_t index = (uint64_t)whole(from[k + 1], 0) - 1;
             if (index >= all_points)
                 stop("a bad index");
             memcpy(made->corners + 3 * k, points[index], sizeof *points);
