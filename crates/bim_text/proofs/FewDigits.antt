@@ -4,7 +4,7 @@ use Rattle.std.proofs.lemmas.List.{append-nil, drop_all}
 use Rattle.p21_lexer.specs.Spelling.{value_after}
 use Rattle.bim_text.specs.NumberSpellings.{Unsigned, significant}
 use Rattle.bim_text.specs.Decimals.{WritesWhole}
-use Rattle.bim_text.specs.NumberScanning.{front}
+use Rattle.bim_text.specs.inner.NumberScanning.{front}
 use Rattle.bim_text.proofs.Parts.{front_whole, front_digits}
 use Rattle.bim_text.proofs.Significant.{significant_most, length_first}
 

@@ -5,7 +5,7 @@ use Rattle.std.proofs.lemmas.Bool.{ne_eqb}
 use Rattle.std.proofs.lemmas.List.{drop_all}
 use Rattle.bim_text.specs.NumberSpellings.{Unsigned, Plus, Minus, sign_bytes}
 use Rattle.p21_lexer.specs.Spelling.{is_digit, value_after}
-use Rattle.bim_text.specs.NumberScanning.{front, sign_at, fraction_at, exponent_at}
+use Rattle.bim_text.specs.inner.NumberScanning.{front, sign_at, fraction_at, exponent_at}
 
 pub front_step : (bs : List ℕ) (i : ℕ) → i < length bs → is_digit (get_or bs i 0) ≡ true → front (drop i bs) ≡ get_or bs i 0 ∷ front (drop (i + 1) bs)
 front_step bs i lt h = rw (add-one i, drop-cons bs i 0, h) refl

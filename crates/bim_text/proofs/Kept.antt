@@ -8,7 +8,7 @@ use Rattle.std.proofs.lemmas.List.Folds.{list_all-append}
 use Rattle.bim_text.specs.declared.digits.Digits.{Digits}
 use Rattle.bim_text.specs.NumberSpellings.{AreDigits, from_first, significant}
 use Rattle.p21_lexer.specs.Spelling.{is_digit, value_after}
-use Rattle.bim_text.specs.NumberScanning.{kept_zero, kept_digit, kept_step, kept_after}
+use Rattle.bim_text.specs.inner.NumberScanning.{kept_zero, kept_digit, kept_step, kept_after}
 use Rattle.bim_text.proofs.Truths.{digit_low, digit_high}
 use Rattle.bim_text.proofs.Significant.{value_snoc, significant_digit, significant_zero, significant_grows, snoc_cons, value_low, value_high}
 

@@ -5,7 +5,7 @@ use Rattle.std.proofs.lemmas.Bool.{eqb-true, cases_Bool, and_parts}
 use Rattle.std.proofs.lemmas.Bool.Decides.{nat_tests}
 use Rattle.bim_text.specs.NumberSpellings.{Sign, Unsigned, Plus, Minus, Exponent, Spelling, sign_bytes, fraction_bytes, exponent_bytes, bytes_of, AreDigits, fraction_digits, IsExponent, IsNumber}
 use Rattle.p21_lexer.specs.Spelling.{is_digit}
-use Rattle.bim_text.specs.NumberScanning.{front, sign_at, fraction_at, exponent_at, unsigned, behind_front, behind_fraction, parts}
+use Rattle.bim_text.specs.inner.NumberScanning.{front, sign_at, fraction_at, exponent_at, unsigned, behind_front, behind_fraction, parts}
 
 -- The parts are the bytes.
 

@@ -8,7 +8,7 @@ use Rattle.bim_text.specs.declared.decimal.Decimal.{Decimal}
 use Rattle.bim_text.specs.ScaledNumbers.{signed, SameValue}
 use Rattle.bim_text.specs.NumberSpellings.{Spelling, sign_bytes, fraction_bytes, fraction_digits, IsExponent, IsRead, exponent_of, written, digits_of, significant, is_minus}
 use Rattle.bim_text.specs.Decimals.{value_of}
-use Rattle.bim_text.specs.NumberScanning.{front, sign_at, fraction_at, exponent_at, unsigned, behind_front, behind_fraction, parts, kept_after}
+use Rattle.bim_text.specs.inner.NumberScanning.{front, sign_at, fraction_at, exponent_at, unsigned, behind_front, behind_fraction, parts, kept_after}
 use Rattle.bim_text.proofs.Significant.{significant_grows}
 use Rattle.bim_text.proofs.Kept.{Describes, Kept, kept_all}
 use Rattle.bim_text.proofs.Parts.{front_digits, fraction_are_digits, parts_whole, parts_only}

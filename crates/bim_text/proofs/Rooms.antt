@@ -4,7 +4,7 @@ use Rattle.std.proofs.Math.Nat.{one-le-pow, mul-le-mul_right, le-mul_of_pos_righ
 use Rattle.std.proofs.lemmas.Bool.Decides.{nat_tests}
 use Rattle.std.proofs.lemmas.Nat.{pow-add}
 use Rattle.p21_lexer.specs.Spelling.{is_digit}
-use Rattle.bim_text.specs.NumberScanning.{HasRoom}
+use Rattle.bim_text.specs.inner.NumberScanning.{HasRoom}
 use Rattle.bim_text.proofs.Fronts.{front_step, front_stop, front_past}
 
 pub room_first : (n : ℕ) → HasRoom 0 (n + 15 - n)

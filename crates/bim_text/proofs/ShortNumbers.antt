@@ -6,10 +6,10 @@ use Rattle.std.proofs.lemmas.Bool.Decides.{nat_tests}
 use Rattle.std.proofs.lemmas.List.{append-nil, drop-drop, length-append}
 use Rattle.std.proofs.Math.Seq.{drop-append_seam, take-append_seam, drop-append-add}
 use Rattle.p21_lexer.specs.declared.token.TokenKind.TheVariants as kinds
-use Rattle.p21_lexer.specs.Kinds.{kind_of, span}
+use Rattle.p21_lexer.specs.inner.Kinds.{kind_of, span}
 use Rattle.p21_lexer.specs.TokenSeparators.{is_blank, Skips}
 use Rattle.p21_lexer.specs.Cutting.{CutsFrom}
-use Rattle.p21_lexer.specs.TokenSpans.{one, is_point, fraction_span, signed_span, exponent_span, number_span, with_fraction, with_exponent}
+use Rattle.p21_lexer.specs.inner.TokenSpans.{one, is_point, fraction_span, signed_span, exponent_span, number_span, with_fraction, with_exponent}
 use Rattle.p21_lexer.specs.Spelling.{is_digit, is_sign, is_exponent_mark, value_after, run, IsSigned}
 use Rattle.p21_lexer.proofs.Fronts.{run_over}
 use Rattle.p21_lexer.proofs.Gapping.{stop_at}
@@ -17,7 +17,7 @@ use Rattle.p21_lexer.proofs.Numbers.{signed_most}
 use Rattle.p21_lexer.proofs.Tokens.{kind_digit, kind_sign, first_at}
 use Rattle.bim_text.specs.declared.short.Short.{Short}
 use Rattle.bim_text.specs.NumberSpellings.{Sign, sign_bytes, fraction_bytes, fraction_digits, AreDigits, is_minus, significant, written}
-use Rattle.bim_text.specs.NumberScanning.{front}
+use Rattle.bim_text.specs.inner.NumberScanning.{front}
 use Rattle.bim_text.specs.Short.{SpellsShort, sign_of, EndsAt, IsShortAt, number_token}
 use Rattle.bim_text.proofs.Fronts.{front_stop}
 use Rattle.bim_text.proofs.Parts.{front_whole, front_digits}

@@ -1,7 +1,7 @@
 pub mod ScaledNumbers
 pub mod NumberSpellings
 pub mod Decimals
-pub mod NumberScanning
 pub mod TextSpellings
 pub mod Says
 pub mod Short
+pub mod inner

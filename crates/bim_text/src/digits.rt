@@ -2,7 +2,7 @@
 ghost use Rattle.std.specs.Prelude.{◌≡◌, ◌+◌, ◌-◌, ◌^◌, ◌<◌, ◌≤◌, Some, option_map, IfSome, IfNone, length, drop, ℕ, true};
 ghost use Rattle.bim_text.specs.NumberSpellings.{AreDigits};
 ghost use Rattle.p21_lexer.specs.Spelling.{is_digit, value_after};
-ghost use Rattle.bim_text.specs.NumberScanning.{front, kept_step, kept_after, wide};
+ghost use Rattle.bim_text.specs.inner.NumberScanning.{front, kept_step, kept_after, wide};
 ghost use Rattle.bim_model.specs.declared.limits.TheConstants.{MOST_UPLOAD};
 ghost use Rattle.bim_text.specs.declared.limits.TheConstants.{MOST_DIGITS, MOST_EXPONENT};
 

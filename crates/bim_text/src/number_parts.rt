@@ -1,7 +1,7 @@
 //! The parts of a number as it is spelled (ISO 10303-21, section 6).
 ghost use Rattle.std.specs.Prelude.{◌≡◌, ◌+◌, ◌^◌, ◌<◌, ◌≤◌, ◌≤ℤ◌, pos, neg_ℤ, option_map, IfSome, IfNone, length, drop};
 ghost use Rattle.bim_text.specs.NumberSpellings.{sign_bytes, is_minus, fraction_bytes, fraction_digits, IsExponent, exponent_of};
-ghost use Rattle.bim_text.specs.NumberScanning.{sign_at, fraction_at, exponent_at, kept_after};
+ghost use Rattle.bim_text.specs.inner.NumberScanning.{sign_at, fraction_at, exponent_at, kept_after};
 ghost use Rattle.bim_model.specs.declared.limits.TheConstants.{MOST_UPLOAD};
 ghost use Rattle.bim_text.specs.declared.limits.TheConstants.{MOST_DIGITS, MOST_EXPONENT};
 

@@ -3,7 +3,7 @@ ghost use Rattle.std.specs.Prelude.{◌≡◌, ◌+◌, ◌-◌, ◌^◌, ◌<�
 ghost use Rattle.std.specs.Bool.{OnTrue};
 ghost use Rattle.p21_lexer.specs.Spelling.{value_after};
 ghost use Rattle.bim_text.specs.NumberSpellings.{sign_bytes};
-ghost use Rattle.bim_text.specs.NumberScanning.{front, HasRoom};
+ghost use Rattle.bim_text.specs.inner.NumberScanning.{front, HasRoom};
 ghost use Rattle.bim_text.specs.Short.{EndsAt, IsShortAt, IsRowAt, sign_of};
 
 use crate::digits::is_digit;

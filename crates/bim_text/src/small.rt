@@ -1,7 +1,7 @@
 //! Whole numbers of few digits, in 64 bits.
 ghost use Rattle.std.specs.Prelude.{◌≡◌, ◌<◌, ◌≤◌, ◌^◌, IfSome, length, pos};
 ghost use Rattle.p21_lexer.specs.Spelling.{value_after};
-ghost use Rattle.bim_text.specs.NumberScanning.{front};
+ghost use Rattle.bim_text.specs.inner.NumberScanning.{front};
 ghost use Rattle.bim_text.specs.Decimals.{WritesWhole};
 
 use crate::digits::is_digit;

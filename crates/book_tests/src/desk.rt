@@ -2,7 +2,7 @@
 ghost use Rattle.std.specs.Prelude.{◌≡◌, ◌+◌, ◌<◌, ◌^◌, OnOk, IfOk};
 ghost use Rattle.book_history.specs.History.{IsBefore};
 ghost use Rattle.book_history.specs.Legal.{IsLegal, IsGiven};
-ghost use Rattle.federation_book.specs.AnyTime.{IsFree, GivenStays};
+ghost use Rattle.federation_book.specs.inner.AnyTime.{IsFree, GivenStays};
 
 use crate::samples::to_read;
 use bim_model::{Shared, Steps};

@@ -1,7 +1,7 @@
 //! A book of two projects: what is made and listed, and what is refused.
 ghost use Rattle.std.specs.Prelude.{◌≡◌, ◌+◌, OnOk, IfOk};
 ghost use Rattle.book_history.specs.History.{IsBefore};
-ghost use Rattle.federation_book.specs.AnyTime.{IsFree};
+ghost use Rattle.federation_book.specs.inner.AnyTime.{IsFree};
 
 use crate::desk::change;
 use crate::samples::to_post;

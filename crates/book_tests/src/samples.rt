@@ -1,6 +1,6 @@
 //! Models and requests of the tests.
 ghost use Rattle.std.specs.Prelude.{◌<◌, IfOk};
-ghost use Rattle.federation_book.specs.AnyTime.{IsFree};
+ghost use Rattle.federation_book.specs.inner.AnyTime.{IsFree};
 
 use bcf_topics::{CommentIn, TopicBody};
 use bcf_viewpoints::{CheckedBody, ViewBody};

@@ -1,7 +1,7 @@
 //! Topics, comments and viewpoints from request to request.
 ghost use Rattle.std.specs.Prelude.{◌≡◌, ◌+◌, OnOk, IfOk};
 ghost use Rattle.book_history.specs.History.{IsBefore};
-ghost use Rattle.federation_book.specs.AnyTime.{IsFree};
+ghost use Rattle.federation_book.specs.inner.AnyTime.{IsFree};
 
 use crate::desk::{ask, refuse};
 use crate::samples::{author, said, seen, titled, to_post};

@@ -1,6 +1,6 @@
 //! A book whose calls take turns, by two passes of one thread.
 ghost use Rattle.book_turn.specs.Passes.{IsSingle};
-ghost use Rattle.federation_book.specs.AnyTime.{IsFree};
+ghost use Rattle.federation_book.specs.inner.AnyTime.{IsFree};
 
 use crate::project_tests::{is_list, is_refused, is_topic};
 use crate::samples::to_post;

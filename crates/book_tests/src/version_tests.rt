@@ -3,7 +3,7 @@ ghost use Rattle.std.specs.Prelude.{◌≡◌, ◌+◌, ◌<◌, IfOk, OnOk};
 ghost use Rattle.book_history.specs.History.{IsBefore};
 ghost use Rattle.book_history.specs.Legal.{IsGiven};
 ghost use Rattle.book_history.specs.Settings.{IsWithinStated};
-ghost use Rattle.federation_book.specs.AnyTime.{IsFree};
+ghost use Rattle.federation_book.specs.inner.AnyTime.{IsFree};
 
 use crate::desk::{ask, begin, bring, change, finish, is_refused, read, refuse, take, work};
 use crate::project_tests::is_topic;

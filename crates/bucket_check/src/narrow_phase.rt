@@ -62,8 +62,9 @@ fn rule_if_met<L: Ledger>(
     ensures rule { result ≡ clash_by (Some found) a.now b.now }
     ensures steps { steps.new ≤ steps.old + 1 }
 {
+    let rule = found.rule;
     if meet(found, a, b, steps) {
-        Some(found.rule)
+        Some(rule)
     } else {
         None
     }

@@ -12,7 +12,7 @@ use Rattle.bim_model.specs.declared.geometry.Extent.{Extent}
 use Rattle.bucket_grid.specs.declared.axis_cells.Axis.{Axis}
 use Rattle.bucket_grid.specs.Cells.{first_cell, last_cell}
 use Rattle.bucket_grid.specs.declared.cell.TheConstants.{GROWTH}
-use Rattle.bucket_grid.specs.Axes.{low_on, high_on, LieIn}
+use Rattle.bucket_grid.specs.inner.Axes.{low_on, high_on, LieIn}
 use Rattle.bucket_grid.proofs.Owners.{cell_of_rises}
 
 through : (a b c : ℤ) → a ≤ℤ b → b ≤ℤ c → a ≤ℤ c

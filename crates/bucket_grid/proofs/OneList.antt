@@ -8,7 +8,7 @@ use Rattle.std.proofs.lemmas.Slice.{between_is, between_to_end}
 use Rattle.bucket_grid.specs.declared.buckets.Slot.{Slot}
 use Rattle.bucket_grid.specs.declared.cell.Cell.{Cell}
 use Rattle.bucket_grid.specs.declared.bucket_table.Bucket.{Bucket}
-use Rattle.bucket_grid.specs.BucketSlots.{bucket_of, IsWithin}
+use Rattle.bucket_grid.specs.inner.BucketSlots.{bucket_of, IsWithin}
 use Rattle.bucket_grid.specs.BucketTable.{if_bucket}
 
 abbrev with : Cell → List ℕ → Bucket

@@ -2,9 +2,8 @@ pub mod Cells
 pub mod Subjects
 pub mod Dealt
 pub mod BucketTable
-pub mod BucketSlots
 pub mod ElementPlaces
-pub mod Axes
 pub mod Grids
 pub mod Search
 pub mod GridLaws
+pub mod inner

@@ -4,7 +4,7 @@ ghost use Rattle.bim_model.specs.Points.{grid_limit};
 ghost use Rattle.bucket_grid.specs.declared.cell.TheConstants.{FARTHEST_CELL, MOST_CELLS};
 ghost use Rattle.bucket_grid.specs.Cells.{first_cell, last_cell};
 ghost use Rattle.bucket_grid.specs.ElementPlaces.{IsGridBox};
-ghost use Rattle.bucket_grid.specs.Axes.{low_on, high_on, LieIn, span_on, AreSpansOn};
+ghost use Rattle.bucket_grid.specs.inner.Axes.{low_on, high_on, LieIn, span_on, AreSpansOn};
 ghost use Rattle.bucket_grid.specs.Dealt.{IsSpan};
 
 use crate::cell::{first_cell, last_cell};

@@ -1,6 +1,6 @@
 //! Buckets that are being found.
 ghost use Rattle.std.specs.Prelude.{◌≡◌, ◌++◌, [], map, length, IfOk, OnOk, All};
-ghost use Rattle.bucket_grid.specs.BucketSlots.{bucket_of, IsWithin};
+ghost use Rattle.bucket_grid.specs.inner.BucketSlots.{bucket_of, IsWithin};
 ghost use Rattle.bucket_grid.specs.BucketTable.{if_bucket};
 
 use crate::bucket_part::Part;
@@ -28,7 +28,7 @@ pub struct Buckets {
 impl Model for Buckets {
     ghost use Rattle.std.specs.Prelude.{List, map, length, All};
     ghost use Rattle.bucket_grid.specs.declared.bucket_table.Bucket.{Bucket};
-    ghost use Rattle.bucket_grid.specs.BucketSlots.{bucket_of, IsWithin};
+    ghost use Rattle.bucket_grid.specs.inner.BucketSlots.{bucket_of, IsWithin};
 
     ghost Value = { List Bucket };
 

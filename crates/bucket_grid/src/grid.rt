@@ -7,7 +7,7 @@ ghost use Rattle.bim_model.specs.Rules.{IsRules};
 ghost use Rattle.bim_model.specs.Snapshots.{IsSnapshot};
 ghost use Rattle.bim_model.specs.declared.element.Element.{Element};
 ghost use Rattle.bim_model.specs.declared.named_model.NamedModel.{NamedModel};
-ghost use Rattle.bucket_grid.specs.Axes.{span_on};
+ghost use Rattle.bucket_grid.specs.inner.Axes.{span_on};
 ghost use Rattle.bucket_grid.specs.Cells.{holds, memberships, cell_count, members, IsOwner, IsBucket};
 ghost use Rattle.bim_model.specs.Keys.{subjects_of};
 ghost use Rattle.box_lanes.specs.BoxPlaces.{box_at};

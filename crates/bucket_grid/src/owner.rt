@@ -1,7 +1,7 @@
 //! The cell that owns two boxes.
 ghost use Rattle.std.specs.Prelude.{◌≡◌, ◌&&◌, true, IfSome, IfNone};
 ghost use Rattle.std.specs.Int.{int_max};
-ghost use Rattle.bucket_grid.specs.Axes.{low_on, high_on};
+ghost use Rattle.bucket_grid.specs.inner.Axes.{low_on, high_on};
 ghost use Rattle.bucket_grid.specs.Cells.{holds, is_in, owner_of, IsOwner};
 ghost use Rattle.bucket_grid.specs.ElementPlaces.{IsGridBox};
 ghost use Rattle.bucket_grid.specs.declared.cell.Cell.{Cell};

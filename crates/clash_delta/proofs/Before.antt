@@ -15,7 +15,7 @@ use Rattle.bucket_grid.specs.Subjects.{subject_at, nobody, IsBoxOf, AreBoxes}
 use Rattle.bucket_grid.proofs.Rising.{places_within}
 use Rattle.bucket_grid.proofs.Zips.{zip_at, zip_length, zip_push}
 use Rattle.bucket_check.specs.ClashSets.{IsSame, subjects_at}
-use Rattle.clash_delta.specs.ElementNumbers.{subjects, HadNumber, IsNumberBefore, AreNumbersBefore, AllBelow, AreFrom}
+use Rattle.clash_delta.specs.inner.ElementNumbers.{subjects, HadNumber, IsNumberBefore, AreNumbersBefore, AllBelow, AreFrom}
 use Rattle.clash_delta.specs.Carried.{IsUnmovedAt}
 use Rattle.clash_delta.proofs.Keys.{below_trans, one_number}
 

@@ -14,7 +14,7 @@ use Rattle.bucket_grid.specs.Subjects.{subject_at}
 use Rattle.bucket_grid.proofs.Zips.{zip_at, zip_length, zip_push}
 use Rattle.bucket_check.specs.ClashSets.{SetValue, IsSame, subjects_at, IsUnmoved, IsSetOf}
 use Rattle.clash_delta.specs.declared.slot.Slot.{Slot}
-use Rattle.clash_delta.specs.ElementNumbers.{subjects}
+use Rattle.clash_delta.specs.inner.ElementNumbers.{subjects}
 use Rattle.clash_delta.specs.BucketProgress.{cells_of, bucket_cells, IsDone, IsOf}
 use Rattle.clash_delta.specs.BucketPlaces.{Rise, IsPlaceOf}
 use Rattle.clash_delta.specs.Carried.{IsCarried, IsMoved, IsCarriedSet, IsCarriedTo, IsUnmovedAt, IsReachedCell}

@@ -15,8 +15,8 @@ use Rattle.bim_model.specs.Keys.{Subject, key_of, key_cmp, IsBelow}
 use Rattle.bim_model.proofs.Versions.{less}
 use Rattle.bucket_grid.specs.Subjects.{subject_at, nobody}
 use Rattle.bucket_check.specs.ClashSets.{IsSame}
-use Rattle.clash_delta.specs.Same.{IsLike}
-use Rattle.clash_delta.specs.ElementNumbers.{HadNumber, AllBelow, IsReached}
+use Rattle.clash_delta.specs.inner.Same.{IsLike}
+use Rattle.clash_delta.specs.inner.ElementNumbers.{HadNumber, AllBelow, IsReached}
 
 keys_total : IsTotalOrder key_cmp
 keys_total = then_total (on_total (λ (k : ElementKey). k.model) nat_list_cmp_total) (on_total (λ (k : ElementKey). k.guid.chars) nat_list_cmp_total)

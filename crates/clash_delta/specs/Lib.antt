@@ -1,5 +1,4 @@
-pub mod Same
 pub mod BucketProgress
 pub mod BucketPlaces
 pub mod Carried
-pub mod ElementNumbers
+pub mod inner

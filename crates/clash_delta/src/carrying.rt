@@ -6,7 +6,7 @@ ghost use Rattle.bucket_grid.specs.declared.bucket_table.Bucket.{Bucket};
 ghost use Rattle.bucket_grid.specs.Cells.{cell_cmp, members};
 ghost use Rattle.bucket_check.specs.declared.bucket_work.BucketWork.{BucketWork};
 ghost use Rattle.bucket_check.specs.ClashSets.{IsUnmoved, IsSetOf};
-ghost use Rattle.clash_delta.specs.ElementNumbers.{subjects, AreNumbersBefore, AreFrom};
+ghost use Rattle.clash_delta.specs.inner.ElementNumbers.{subjects, AreNumbersBefore, AreFrom};
 ghost use Rattle.clash_delta.specs.BucketProgress.{IsDone, IsOf};
 ghost use Rattle.clash_delta.specs.Carried.{IsCarried, IsMoved, IsCarriedTo, IsUnmovedAt, IsReachedCell};
 ghost use Rattle.clash_delta.specs.declared.slot.Slot.{Slot};

@@ -39,12 +39,15 @@ fn same_models(a: ModelTest, b: ModelTest) -> bool
 fn same_kind(a: RuleKind, b: RuleKind) -> bool
     ensures { IsTrue result ↔ (a ≡ b) }
 {
-    match (a, b) {
-        (RuleKind::Clash { distance: a }, RuleKind::Clash { distance: b }) => {
-            a.millimetres() == b.millimetres()
-        }
-        (RuleKind::Ignore, RuleKind::Ignore) => true,
-        _ => false,
+    match a {
+        RuleKind::Clash { distance: first } => match b {
+            RuleKind::Clash { distance: second } => first.millimetres() == second.millimetres(),
+            RuleKind::Ignore => false,
+        },
+        RuleKind::Ignore => match b {
+            RuleKind::Clash { distance: _ } => false,
+            RuleKind::Ignore => true,
+        },
     }
 }
 

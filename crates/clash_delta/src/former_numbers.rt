@@ -3,7 +3,7 @@ ghost use Rattle.std.specs.Prelude.{◌≡◌, ◌↔◌, ◌<◌, ◌≤◌, le
 ghost use Rattle.bim_model.specs.declared.named_model.NamedModel.{NamedModel};
 ghost use Rattle.bim_model.specs.Keys.{key_of, key_cmp};
 ghost use Rattle.bucket_check.specs.ClashSets.{IsSame};
-ghost use Rattle.clash_delta.specs.ElementNumbers.{subjects, subject_of, AllBelow, IsReached, IsNumberBefore, AreNumbersBefore};
+ghost use Rattle.clash_delta.specs.inner.ElementNumbers.{subjects, subject_of, AllBelow, IsReached, IsNumberBefore, AreNumbersBefore};
 
 use crate::same::is_like;
 use bim_model::NamedModel;

@@ -1,6 +1,6 @@
 //! Elements that look alike.
 ghost use Rattle.std.specs.Prelude.{◌≡◌, ◌↔◌, IsTrue};
-ghost use Rattle.clash_delta.specs.Same.{IsLike};
+ghost use Rattle.clash_delta.specs.inner.Same.{IsLike};
 
 use bim_model::{Element, Point, Text, Triangle};
 

@@ -16,8 +16,8 @@ use Rattle.tri_exact.specs.Edges.{Beside, Crosses}
 use Rattle.tri_exact.specs.Pierce.{Rises, Up, PiercesFace, height, weight_a, weight_b, weight_c}
 use Rattle.tri_exact.proofs.FootTest.{foot_yes, foot_no}
 use Rattle.clearance.specs.Near.{FacesNear, Near, NearAny, ListsNear, ElementsNear}
-use Rattle.clearance.specs.Planes.{SideNear}
-use Rattle.clearance.specs.EdgePairs.{CornerNear, RowNear, EdgesNear}
+use Rattle.clearance.specs.inner.Planes.{SideNear}
+use Rattle.clearance.specs.inner.EdgePairs.{CornerNear, RowNear, EdgesNear}
 use Rattle.clearance.specs.Decided.{is_beside, is_crossing, is_corner_near, is_row_near, is_edge_near, is_over, is_rising, is_up, is_through, is_side_near, is_face_near, is_near_triangles, is_near_lists, is_near}
 use Rattle.clearance.proofs.Lists.{any_map}
 use Rattle.clearance.proofs.NearTest.{near_tests, tests_near}

@@ -6,8 +6,8 @@ use Rattle.tri_exact.specs.Within.{mix3, HasArea, FootWithin, EdgesWithin}
 use Rattle.clearance.specs.Near.{FacesNear}
 use Rattle.tri_exact.specs.Pierce.{PiercesFace}
 use Rattle.tri_exact.proofs.Pierce.{slope, slope_is}
-use Rattle.clearance.specs.Planes.{SideNear}
-use Rattle.clearance.specs.EdgePairs.{EdgeNear, EdgesNear}
+use Rattle.clearance.specs.inner.Planes.{SideNear}
+use Rattle.clearance.specs.inner.EdgePairs.{EdgeNear, EdgesNear}
 use Rattle.exact_arith.proofs.Ring.{ring, at, ◌⊕◌, ◌⊖◌, ◌⊗◌}
 use Rattle.exact_arith.proofs.Order.{mul_positive, nonneg_by}
 use Rattle.tri_exact.proofs.Pose.{Pose, gap, same_vector, length_nonneg}

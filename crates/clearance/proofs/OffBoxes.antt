@@ -3,7 +3,7 @@ use Rattle.std.proofs.Common.{ℕ, inl, inr, ◌≡◌, ◌↔◌, subst}
 use Rattle.bim_model.specs.declared.geometry.Extent.{Extent}
 use Rattle.exact_arith.specs.Space.{Face}
 use Rattle.clearance.specs.Near.{FacesNear}
-use Rattle.clearance.specs.BoxContainment.{InExtent, Wider, IsOff}
+use Rattle.clearance.specs.inner.BoxContainment.{InExtent, Wider, IsOff}
 use Rattle.exact_arith.proofs.Order.{le_trans}
 use Rattle.clearance.proofs.Spans.{sides}
 use Rattle.clearance.proofs.Gaps.{far_x, far_y, far_z, near_swaps}

@@ -3,7 +3,7 @@ use Rattle.std.proofs.Common.{ℕ, ◌≡◌, arith, ℤ, pos, ◌+ℤ◌, ◌-�
 use Rattle.std.proofs.lemmas.Int.{ints}
 use Rattle.exact_arith.specs.Space.{Vector, Face, minus, dot_of}
 use Rattle.clearance.specs.Near.{FacesNear}
-use Rattle.clearance.specs.Apart.{Apart}
+use Rattle.clearance.specs.inner.Apart.{Apart}
 use Rattle.clearance.proofs.Separate.{separated, height_apart}
 
 -- a place above or below a bound, from another origin

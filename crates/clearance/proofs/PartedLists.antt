@@ -8,10 +8,10 @@ use Rattle.exact_arith.proofs.Order.{le_trans}
 use Rattle.exact_arith.proofs.Ranges.{in_128, same_128}
 use Rattle.clearance.specs.declared.projections.Interval.{Interval}
 use Rattle.clearance.specs.Near.{FacesNear, ListsNear}
-use Rattle.clearance.specs.Apart.{Apart}
-use Rattle.clearance.specs.BoxContainment.{InExtent}
-use Rattle.clearance.specs.TriangleRuns.{AllIn, AllReach, Reaches}
-use Rattle.clearance.specs.Projections.{InInterval, Longer, ProjectsIn, AllProjectIn}
+use Rattle.clearance.specs.inner.Apart.{Apart}
+use Rattle.clearance.specs.inner.BoxContainment.{InExtent}
+use Rattle.clearance.specs.inner.TriangleRuns.{AllIn, AllReach, Reaches}
+use Rattle.clearance.specs.inner.Projections.{InInterval, Longer, ProjectsIn, AllProjectIn}
 use Rattle.clearance.proofs.Gaps.{near_swaps}
 use Rattle.clearance.proofs.Parted.{parted}
 

@@ -6,8 +6,8 @@ use Rattle.bim_model.specs.declared.geometry.Triangle.{Triangle}
 use Rattle.bim_model.specs.declared.geometry.Extent.{Extent}
 use Rattle.clearance.specs.Near.{Near, NearAny, ListsNear}
 use Rattle.bim_model.specs.Points.{shape_of}
-use Rattle.clearance.specs.BoxContainment.{InExtent, Wider, IsOff}
-use Rattle.clearance.specs.TriangleRuns.{RunsIn, Reaches}
+use Rattle.clearance.specs.inner.BoxContainment.{InExtent, Wider, IsOff}
+use Rattle.clearance.specs.inner.TriangleRuns.{RunsIn, Reaches}
 use Rattle.clearance.proofs.OffBoxes.{off_far, widened}
 use Rattle.clearance.proofs.Lists.{any_map, any_front, any_behind, any_parts, none_any}
 

@@ -3,7 +3,7 @@ use Rattle.std.proofs.Common.{ℕ, ◌≡◌, ◌⊎◌, inl, inr, arith, ℤ, p
 use Rattle.std.proofs.lemmas.Int.{ints, by_lt_z}
 use Rattle.exact_arith.specs.Space.{Vector, minus, dot_of, Face}
 use Rattle.tri_exact.specs.Within.{PointEdgeWithin, EdgesWithin}
-use Rattle.clearance.specs.EdgePairs.{EdgeNear, EdgesNear, CornerNear, RowNear}
+use Rattle.clearance.specs.inner.EdgePairs.{EdgeNear, EdgesNear, CornerNear, RowNear}
 use Rattle.tri_exact.specs.Edges.{Beside}
 use Rattle.exact_arith.proofs.Ring.{ring, lit, ◌⊕◌, ◌⊖◌, ◌⊗◌}
 use Rattle.exact_arith.proofs.Triples.{spot, ◌⊟◌, scalar}

@@ -3,7 +3,7 @@ use Rattle.std.proofs.Common.{ℕ, ◌≡◌, inl, inr, arith, ℤ, pos, ◌+ℤ
 use Rattle.std.proofs.lemmas.Int.{ints}
 use Rattle.exact_arith.specs.Space.{Vector, minus, dot_of, Face, normal}
 use Rattle.clearance.specs.Near.{FacesNear}
-use Rattle.clearance.specs.Planes.{Clear, IsClear}
+use Rattle.clearance.specs.inner.Planes.{Clear, IsClear}
 use Rattle.exact_arith.proofs.Ring.{ring, at, lit, ◌⊕◌, ◌⊖◌, ◌⊗◌}
 use Rattle.exact_arith.proofs.Triples.{spot, ◌⊞◌, ◌⊟◌, ◌⊡◌, scalar, crossed}
 use Rattle.exact_arith.proofs.Order.{add_nonneg, mul_nonneg, mul_positive, certify, rest}

@@ -3,7 +3,7 @@ use Rattle.std.proofs.Common.{ℕ, zero, suc, ◌≡◌, ◌+◌, ◌*◌, ◌<�
 use Rattle.std.specs.Prelude.{slice_index_or}
 use Rattle.bim_model.specs.declared.geometry.Triangle.{Triangle}
 use Rattle.clearance.specs.Near.{NearAny, ListsNear}
-use Rattle.clearance.specs.TriangleRuns.{NoneInRow}
+use Rattle.clearance.specs.inner.TriangleRuns.{NoneInRow}
 use Rattle.std.proofs.lemmas.List.{get_or_default}
 use Rattle.clearance.proofs.Lists.{by_lt}
 

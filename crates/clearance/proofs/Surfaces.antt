@@ -11,7 +11,7 @@ use Rattle.bim_model.specs.declared.geometry.Triangle.{Triangle}
 use Rattle.bim_model.specs.declared.geometry.Extent.{Extent}
 use Rattle.bim_model.specs.declared.element.Element.{Element}
 use Rattle.clearance.specs.Near.{ListsNear, ElementsNear}
-use Rattle.clearance.specs.BoxContainment.{Between, InExtent, IsOff}
+use Rattle.clearance.specs.inner.BoxContainment.{Between, InExtent, IsOff}
 use Rattle.clearance.proofs.OffBoxes.{off_far}
 
 -- ---- the triangles lie in their box

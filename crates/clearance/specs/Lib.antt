@@ -1,9 +1,3 @@
 pub mod Near
-pub mod TriangleCorners
-pub mod EdgePairs
-pub mod Planes
-pub mod BoxContainment
-pub mod TriangleRuns
-pub mod Apart
 pub mod Decided
-pub mod Projections
+pub mod inner

@@ -3,8 +3,8 @@
 ghost use Rattle.std.specs.Prelude.{◌*◌, ◌≤◌, pos, ◌-ℤ◌, ◌≤ℤ◌, ◌<ℤ◌, unsigned_abs, IsTrue};
 ghost use Rattle.tri_exact.specs.ProductLimits.{height_limit, square_limit, distance_limit};
 ghost use Rattle.clearance.specs.Near.{FacesNear};
-ghost use Rattle.clearance.specs.TriangleCorners.{face_of, InGrid};
-ghost use Rattle.clearance.specs.Apart.{Apart};
+ghost use Rattle.clearance.specs.inner.TriangleCorners.{face_of, InGrid};
+ghost use Rattle.clearance.specs.inner.Apart.{Apart};
 
 use crate::corner_vectors::Corners;
 use tri_exact::products::{difference, height, is_low, normal_to, scalar, square};

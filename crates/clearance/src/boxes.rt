@@ -4,7 +4,7 @@ ghost use Rattle.std.specs.Prelude.{◌≤◌, ◌<◌, pos, ◌+ℤ◌, ◌≤�
 ghost use Rattle.tri_exact.specs.ProductLimits.{distance_limit};
 ghost use Rattle.bim_model.specs.Points.{grid_limit, IsInGrid, shape_of};
 ghost use Rattle.bim_model.specs.Gaps.{gap};
-ghost use Rattle.clearance.specs.BoxContainment.{InExtent, IsExtent, Wider, IsOff};
+ghost use Rattle.clearance.specs.inner.BoxContainment.{InExtent, IsExtent, Wider, IsOff};
 
 use bim_model::{Extent, GRID_LIMIT, Point, Triangle};
 

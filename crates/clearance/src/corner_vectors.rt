@@ -3,7 +3,7 @@
 ghost use Rattle.std.specs.Prelude.{◌≡◌};
 ghost use Rattle.tri_exact.specs.GridVectors.{at, IsPoint};
 ghost use Rattle.bim_model.specs.Points.{IsGridPoint, IsInGrid, vector_of, shape_of};
-ghost use Rattle.clearance.specs.TriangleCorners.{face_of, InGrid};
+ghost use Rattle.clearance.specs.inner.TriangleCorners.{face_of, InGrid};
 
 use bim_model::{Point, Triangle};
 use tri_exact::V3;

@@ -2,7 +2,7 @@
 // Directions across which two lists of triangles may have a gap. Any direction serves: these are the likely ones.
 ghost use Rattle.std.specs.Prelude.{◌≤◌, unsigned_abs, All};
 ghost use Rattle.bim_model.specs.Points.{IsInGrid, step_limit};
-ghost use Rattle.clearance.specs.BoxContainment.{IsExtent};
+ghost use Rattle.clearance.specs.inner.BoxContainment.{IsExtent};
 
 use crate::apart::{longer, longest_edge};
 use crate::corner_vectors::corners_of;

@@ -4,8 +4,8 @@ ghost use Rattle.std.specs.Prelude.{◌≡◌, ◌≤◌, ◌↔◌, unsigned_ab
 ghost use Rattle.tri_exact.specs.ProductLimits.{product_limit, distance_limit};
 ghost use Rattle.exact_arith.specs.Space.{dot_of, minus};
 ghost use Rattle.tri_exact.specs.GridVectors.{at, IsPoint};
-ghost use Rattle.clearance.specs.TriangleCorners.{face_of, InGrid};
-ghost use Rattle.clearance.specs.EdgePairs.{CornerNear, RowNear, EdgesNear};
+ghost use Rattle.clearance.specs.inner.TriangleCorners.{face_of, InGrid};
+ghost use Rattle.clearance.specs.inner.EdgePairs.{CornerNear, RowNear, EdgesNear};
 
 use crate::corner_vectors::Corners;
 use tri_exact::products::{difference, scalar};

@@ -2,8 +2,8 @@
 // A triangle's plane, and the heights of another triangle's corners over it.
 ghost use Rattle.std.specs.Prelude.{ℕ, ◌≤◌, ℤ, ◌≤ℤ◌, unsigned_abs, IsTrue};
 ghost use Rattle.tri_exact.specs.ProductLimits.{height_limit, square_limit, distance_limit};
-ghost use Rattle.clearance.specs.TriangleCorners.{face_of, InGrid};
-ghost use Rattle.clearance.specs.Planes.{IsPlane, IsOver, IsTall, Clear, IsClear};
+ghost use Rattle.clearance.specs.inner.TriangleCorners.{face_of, InGrid};
+ghost use Rattle.clearance.specs.inner.Planes.{IsPlane, IsOver, IsTall, Clear, IsClear};
 
 use crate::corner_vectors::Corners;
 use tri_exact::products::{difference, height, is_low, normal_to, square};

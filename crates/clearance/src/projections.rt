@@ -5,9 +5,9 @@ ghost use Rattle.tri_exact.specs.ProductLimits.{height_limit, distance_limit};
 ghost use Rattle.tri_exact.specs.GridVectors.{at, straight, IsPoint};
 ghost use Rattle.bim_model.specs.Points.{IsInGrid, shape_of};
 ghost use Rattle.clearance.specs.Near.{ListsNear};
-ghost use Rattle.clearance.specs.BoxContainment.{IsExtent};
-ghost use Rattle.clearance.specs.TriangleRuns.{AllIn, AllReach};
-ghost use Rattle.clearance.specs.Projections.{InInterval, IsInterval, Longer, ProjectsIn, AllProjectIn};
+ghost use Rattle.clearance.specs.inner.BoxContainment.{IsExtent};
+ghost use Rattle.clearance.specs.inner.TriangleRuns.{AllIn, AllReach};
+ghost use Rattle.clearance.specs.inner.Projections.{InInterval, IsInterval, Longer, ProjectsIn, AllProjectIn};
 
 use crate::apart::{HEIGHT, highest, is_gap, lowest};
 use crate::boxes::{extent_of, is_off};

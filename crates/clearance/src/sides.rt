@@ -5,8 +5,8 @@ ghost use Rattle.tri_exact.specs.ProductLimits.{height_limit, distance_limit};
 ghost use Rattle.exact_arith.specs.Space.{dot_of, minus, normal};
 ghost use Rattle.tri_exact.specs.GridVectors.{at, IsPoint};
 ghost use Rattle.tri_exact.specs.Within.{HasArea, FootWithin};
-ghost use Rattle.clearance.specs.TriangleCorners.{face_of, InGrid};
-ghost use Rattle.clearance.specs.Planes.{IsPlane, IsOver, IsTall, SideNear};
+ghost use Rattle.clearance.specs.inner.TriangleCorners.{face_of, InGrid};
+ghost use Rattle.clearance.specs.inner.Planes.{IsPlane, IsOver, IsTall, SideNear};
 
 use crate::corner_vectors::Corners;
 use crate::planes::{Heights, Plane};

@@ -5,8 +5,8 @@ ghost use Rattle.std.specs.Prelude.{false, ◌≡◌, ◌<◌, ◌≤◌, ◌↔
 ghost use Rattle.tri_exact.specs.ProductLimits.{distance_limit};
 ghost use Rattle.bim_model.specs.Points.{IsInGrid, shape_of};
 ghost use Rattle.clearance.specs.Near.{Near, NearAny, ListsNear};
-ghost use Rattle.clearance.specs.BoxContainment.{InExtent, IsExtent, Wider, IsOff};
-ghost use Rattle.clearance.specs.TriangleRuns.{AllIn, AllReach, RunsIn, NoneInRow};
+ghost use Rattle.clearance.specs.inner.BoxContainment.{InExtent, IsExtent, Wider, IsOff};
+ghost use Rattle.clearance.specs.inner.TriangleRuns.{AllIn, AllReach, RunsIn, NoneInRow};
 
 use crate::boxes::{extent_of, extent_of_all, is_off, join, no_extent};
 use crate::projections::lists_apart;

@@ -5,8 +5,8 @@ ghost use Rattle.tri_exact.specs.ProductLimits.{distance_limit};
 ghost use Rattle.bim_model.specs.Points.{IsInGrid};
 ghost use Rattle.clearance.specs.Near.{FacesNear, Near};
 ghost use Rattle.clearance.specs.Decided.{is_near_triangles};
-ghost use Rattle.clearance.specs.TriangleCorners.{face_of, InGrid};
-ghost use Rattle.clearance.specs.Planes.{IsPlane};
+ghost use Rattle.clearance.specs.inner.TriangleCorners.{face_of, InGrid};
+ghost use Rattle.clearance.specs.inner.Planes.{IsPlane};
 
 use crate::apart::is_apart;
 use crate::boxes::{extent_of, is_off};

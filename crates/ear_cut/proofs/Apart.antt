@@ -12,7 +12,7 @@ use Rattle.ear_cut.specs.declared.corner_frames.Frame.{Frame}
 use Rattle.ear_cut.specs.PolygonViews.{Spot, seen, bend, signed, area, is_corner, holds}
 use Rattle.ear_cut.specs.Corners.{by_sign, angle_of}
 use Rattle.ear_cut.specs.Removal.{is_free}
-use Rattle.ear_cut.specs.CornerFrames.{IsIn, is_apart}
+use Rattle.ear_cut.specs.inner.CornerFrames.{IsIn, is_apart}
 use Rattle.ear_cut.proofs.Spokes.{bent}
 
 -- weights that are not negative, one of them above zero, don't balance distances to one side

@@ -13,7 +13,7 @@ use Rattle.ear_cut.specs.declared.corners.Angle.TheVariants.{Convex}
 use Rattle.ear_cut.specs.PolygonViews.{Spot, seen, area, same_spot, is_corner, holds}
 use Rattle.ear_cut.specs.Corners.{previous, next, nobody, turn_at, angle_of, is_straight, by_sign}
 use Rattle.ear_cut.specs.Removal.{choice, first_from, or_else, is_ear, is_ear_at, is_free}
-use Rattle.ear_cut.specs.Fans.{spot_at, area_at, IsFan}
+use Rattle.ear_cut.specs.inner.Fans.{spot_at, area_at, IsFan}
 use Rattle.ear_cut.proofs.Spokes.{area_cyclic, area_turned, area_behind, convex_sign}
 use Rattle.ear_cut.proofs.Search.{first_is, all_pass}
 use Rattle.ear_cut.proofs.Taken.{same_turn}

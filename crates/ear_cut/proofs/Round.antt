@@ -13,7 +13,7 @@ use Rattle.ear_cut.specs.declared.corner_frames.Frames.{Frames}
 use Rattle.ear_cut.specs.PolygonViews.{Spot, seen}
 use Rattle.ear_cut.specs.Corners.{nobody, angle_of}
 use Rattle.ear_cut.specs.Removal.{is_free}
-use Rattle.ear_cut.specs.CornerFrames.{run, point_frame, IsIn, is_apart, IsRound, AreRound, AreFrames, AreFramesBefore}
+use Rattle.ear_cut.specs.inner.CornerFrames.{run, point_frame, IsIn, is_apart, IsRound, AreRound, AreFrames, AreFramesBefore}
 use Rattle.ear_cut.proofs.Taken.{lift, lift_within, taken}
 use Rattle.ear_cut.proofs.Apart.{apart_free}
 

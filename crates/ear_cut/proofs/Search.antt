@@ -14,7 +14,7 @@ use Rattle.exact_arith.specs.Space.{is_nowhere, cross_of}
 use Rattle.bim_model.specs.Points.{step}
 use Rattle.ear_cut.specs.Corners.{nobody, angle_of}
 use Rattle.ear_cut.specs.Removal.{first_from, is_free, is_ear, is_ear_at}
-use Rattle.ear_cut.specs.EarNotes.{IsFirst, IsClearTo, settles}
+use Rattle.ear_cut.specs.inner.EarNotes.{IsFirst, IsClearTo, settles}
 
 none_from : (test : ℕ → Bool) (i n : ℕ) → ((k : ℕ) → i ≤ k → k < i + n → test k ≡ false) → first_from test i n ≡ None
 none_from test i zero h = refl

@@ -12,7 +12,7 @@ use Rattle.ear_cut.specs.declared.corner_notes.Note.{Note}
 use Rattle.ear_cut.specs.Corners.{previous, next, nobody, turn_at, angle_of, AreInGrid}
 use Rattle.bim_model.specs.Points.{IsGridPoint}
 use Rattle.ear_cut.specs.Removal.{is_free}
-use Rattle.ear_cut.specs.EarNotes.{blank, fresh, shifted, place_behind, IsClearTo, IsHeldAt, IsTrueOf, IsNoted, IsTaken}
+use Rattle.ear_cut.specs.inner.EarNotes.{blank, fresh, shifted, place_behind, IsClearTo, IsHeldAt, IsTrueOf, IsNoted, IsTaken}
 
 abbrev pub lift : ℕ → ℕ → ℕ
 lift i k = cond (nat_lt k i) k (k + 1)

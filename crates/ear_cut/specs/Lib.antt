@@ -2,8 +2,5 @@ pub mod OutlineLimits
 pub mod PolygonViews
 pub mod Corners
 pub mod Removal
-pub mod Registers
-pub mod EarNotes
 pub mod Areas
-pub mod Fans
-pub mod CornerFrames
+pub mod inner

@@ -10,7 +10,7 @@ use Rattle.std.proofs.lemmas.List.Sorted.{Contains-permutation, IsPermutation-sy
 use Rattle.std.proofs.lemmas.Map.Keys.{IsStrictlyIncreasing-dedup}
 use Rattle.p21_values.specs.declared.value.Value21.{Value21}
 use Rattle.p21_values.specs.Values.{reference_of}
-use Rattle.faceset.specs.FaceNumbers.{HaveSame}
+use Rattle.faceset.specs.inner.FaceNumbers.{HaveSame}
 
 -- one more value
 pub numbers_more : (vs : List Value21) (v : Value21) (old new : List ℕ) → old ≡ filter_map reference_of vs → new ≡ old ++ filter_map reference_of (v ∷ []) → new ≡ filter_map reference_of (vs ++ v ∷ [])

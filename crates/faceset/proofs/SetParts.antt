@@ -15,7 +15,7 @@ use Rattle.p21_values.specs.InstanceLookup.{look}
 use Rattle.faceset.specs.Indexes.{PointsNowhere}
 use Rattle.p21_values.specs.Attributes.{listed, items_in, led_to}
 use Rattle.faceset.specs.FaceSets.{outline, numbering, spelled_points, spelled_triangles, is_polygonal, faces_of, face_ids, rows_of, counted_by, HasBadNumber, HasBadIndex, IsMisnamed, AreCorners, IsOutlined, HasThree, IsSound, IsCut, IsStuck, HasStuck, IsTriangle, AreTriangles, Joined, SetTriangles, face_count, triangle_count}
-use Rattle.faceset.specs.Cuts.{IsLoose}
+use Rattle.faceset.specs.inner.Cuts.{IsLoose}
 use Rattle.faceset.proofs.Zips.{zip_length}
 use Rattle.faceset.proofs.Joins.{gives_one, contains_mapped, joined_at}
 use Rattle.faceset.proofs.Unique.{named_well, cut_unstuck}

@@ -12,10 +12,10 @@ use Rattle.p21_values.specs.InstanceLookup.{look}
 use Rattle.p21_values.specs.Values.{reference_of}
 use Rattle.faceset.specs.FaceSets.{IsStuck, IsOutlined, IsCorner, outline, face_ids, is_polygonal, numbering, HasStuck}
 use Rattle.p21_values.specs.Attributes.{listed}
-use Rattle.ifc_instances.specs.Least.{IsLeast, LeastOf}
+use Rattle.ifc_instances.specs.inner.Least.{IsLeast, LeastOf}
 use Rattle.ifc_instances.proofs.Rising.{before}
-use Rattle.faceset.specs.Cuts.{HasMisnamed}
-use Rattle.faceset.specs.FaceNumbers.{HaveSame, IsStuckFace, IsStuckIn}
+use Rattle.faceset.specs.inner.Cuts.{HasMisnamed}
+use Rattle.faceset.specs.inner.FaceNumbers.{HaveSame, IsStuckFace, IsStuckIn}
 use Rattle.faceset.proofs.Zips.{zip_at}
 use Rattle.faceset.proofs.Unique.{named_well}
 

@@ -4,7 +4,7 @@ ghost use Rattle.bim_model.specs.Points.{IsGridPoint};
 ghost use Rattle.ear_cut.specs.Areas.{point_at};
 ghost use Rattle.ear_cut.specs.Removal.{cut_of};
 ghost use Rattle.faceset.specs.FaceSets.{AreCorners, triangle_of, outline, IsMisnamed, most_corners};
-ghost use Rattle.faceset.specs.Cuts.{CutsInto, IsOutcome, IsCounted};
+ghost use Rattle.faceset.specs.inner.Cuts.{CutsInto, IsOutcome, IsCounted};
 
 use crate::naming::corner;
 use crate::sets::outline;

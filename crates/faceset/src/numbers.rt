@@ -2,7 +2,7 @@
 ghost use Rattle.std.specs.Prelude.{◌≡◌, ◌++◌, ◌∷◌, [], filter_map, IfOk, OnOk};
 ghost use Rattle.std.specs.List.Sorted.{IsStrictlyIncreasing};
 ghost use Rattle.p21_values.specs.Values.{reference_of};
-ghost use Rattle.faceset.specs.FaceNumbers.{HaveSame};
+ghost use Rattle.faceset.specs.inner.FaceNumbers.{HaveSame};
 
 use p21_table::{ValueRef, Values};
 use std::alloc::{AllocError, Global};

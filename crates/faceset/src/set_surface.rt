@@ -4,7 +4,7 @@ ghost use Rattle.bim_model.specs.declared.geometry.Triangle.{Triangle};
 ghost use Rattle.bim_model.specs.Points.{IsGridPoint};
 ghost use Rattle.p21_values.specs.Attributes.{led_to};
 ghost use Rattle.faceset.specs.FaceSets.{Joined, IsCut, SetTriangles, IsSound, HasStuck, face_count, triangle_count};
-ghost use Rattle.faceset.specs.Cuts.{IsLoose};
+ghost use Rattle.faceset.specs.inner.Cuts.{IsLoose};
 
 use crate::faces::{Outcome, cut_face};
 use crate::sets::{is_polygonal, placed_numbering};

@@ -4,8 +4,8 @@ ghost use Rattle.std.specs.Bool.{MatchBool};
 ghost use Rattle.std.specs.List.Sorted.{IsStrictlyIncreasing};
 ghost use Rattle.bim_model.specs.Points.{IsGridPoint};
 ghost use Rattle.faceset.specs.FaceSets.{HasStuck};
-ghost use Rattle.ifc_instances.specs.Least.{LeastOf};
-ghost use Rattle.faceset.specs.FaceNumbers.{IsStuckFace, IsStuckIn};
+ghost use Rattle.ifc_instances.specs.inner.Least.{LeastOf};
+ghost use Rattle.faceset.specs.inner.FaceNumbers.{IsStuckFace, IsStuckIn};
 
 use crate::faces::{Outcome, cut_face};
 use crate::numbers::distinct_numbers;

@@ -15,8 +15,8 @@ use Rattle.book_history.specs.Refusals.{project_of}
 use Rattle.book_history.specs.Requests.{BookState, Outcome, added_by, entry_by, body_of, outcome_of}
 use Rattle.book_history.proofs.Histories.{AreOf, added_of, none_before}
 use Rattle.book_history.proofs.Legality.{given_later}
-use Rattle.federation_book.specs.AnyTime.{GivenStays}
-use Rattle.federation_book.specs.Done.{IsDone, IsTold}
+use Rattle.federation_book.specs.inner.AnyTime.{GivenStays}
+use Rattle.federation_book.specs.inner.Done.{IsDone, IsTold}
 use Rattle.federation_book.specs.declared.project.Project.{Project}
 use Rattle.federation_book.proofs.Answering.{numbered, nothing_added}
 

@@ -19,7 +19,7 @@ use Rattle.book_history.specs.declared.changes.Change.TheVariants as change
 use Rattle.book_history.specs.declared.replies.ReplyBody.TheVariants as reply
 use Rattle.book_history.specs.Projects.{with_clash}
 use Rattle.book_history.specs.Requests.{topic_told, comment_told}
-use Rattle.federation_book.specs.Noting.{IsApplied}
+use Rattle.federation_book.specs.inner.Noting.{IsApplied}
 
 module _ (pair : Option (Guid × Guid)) (c : Change) (before after : BoardState) where
   pub post_topic_applied : (body : TopicBody) (author : Author) (weight : ℕ) (told : Topic) → c ≡ change.PostTopic body author weight → told ≡ new_topic (next_serial before) body author

@@ -26,7 +26,7 @@ use Rattle.book_history.specs.Projects.{ProjectState, guids_of, clash_at}
 use Rattle.book_history.specs.History.{state_of, version_of}
 use Rattle.book_history.specs.Refusals.{first_of, wanted_in, not_yet, dropped, pending, no_clash}
 use Rattle.book_history.specs.Requests.{Outcome, Answer, refused_or, unless, noted, clashes_read, clash_noted, body_of}
-use Rattle.federation_book.specs.Done.{IsDone}
+use Rattle.federation_book.specs.inner.Done.{IsDone}
 use Rattle.federation_book.proofs.Finding.{refusal_done}
 use Rattle.federation_book.proofs.Noted.{behind_some, behind_all}
 

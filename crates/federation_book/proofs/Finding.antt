@@ -14,7 +14,7 @@ use Rattle.book_history.specs.declared.book_fault.BookFault.{BookFault}
 use Rattle.book_history.specs.declared.replies.ReplyBody.{ReplyBody}
 use Rattle.book_history.specs.declared.replies.ReplyBody.TheVariants as reply
 use Rattle.book_history.specs.Requests.{Outcome, Refusal, Answer, found, view_told}
-use Rattle.federation_book.specs.Done.{IsDone, IsTold}
+use Rattle.federation_book.specs.inner.Done.{IsDone, IsTold}
 
 -- ---- a refusal
 pub refusal_done : (h : List Entry) (stamp : Stamp) (fault : BookFault) → IsDone h h stamp (Refusal fault) (reply.Refused fault)

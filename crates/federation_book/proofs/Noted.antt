@@ -23,8 +23,8 @@ use Rattle.book_history.specs.Weights.{told, text_of, triangles_of}
 use Rattle.book_history.proofs.States.{within}
 use Rattle.federation_book.specs.declared.project.Project.{Project}
 use Rattle.federation_book.specs.KeptProjects.{KeepsProject}
-use Rattle.federation_book.specs.Done.{IsDone}
-use Rattle.federation_book.specs.Noting.{IsNote, IsFurther, IsApplied, clash_of, Fits}
+use Rattle.federation_book.specs.inner.Done.{IsDone}
+use Rattle.federation_book.specs.inner.Noting.{IsNote, IsFurther, IsApplied, clash_of, Fits}
 use Rattle.federation_book.proofs.Accepting.{AreNone, none_of}
 use Rattle.federation_book.proofs.Finding.{refusal_done}
 

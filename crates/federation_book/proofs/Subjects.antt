@@ -11,7 +11,7 @@ use Rattle.book_history.specs.declared.requests.BookRequest.{BookRequest}
 use Rattle.book_history.specs.declared.requests.BookRequest.TheVariants as request
 use Rattle.book_history.specs.declared.requests.Wanted.{Wanted}
 use Rattle.federation_book.specs.declared.subject.Subject.TheVariants.{Projects, Versions, Topics, Comments, Views, Work}
-use Rattle.federation_book.specs.RequestSubjects.{subject_of}
+use Rattle.federation_book.specs.inner.RequestSubjects.{subject_of}
 
 pub projects_only : (r : BookRequest) → subject_of r ≡ Projects
     → (r ≡ request.ListProjects → ⊥)

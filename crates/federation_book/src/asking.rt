@@ -4,8 +4,8 @@ ghost use Rattle.book_history.specs.History.{IsBefore};
 ghost use Rattle.book_history.specs.Requests.{outcome_of};
 ghost use Rattle.book_history.specs.Legal.{IsLegal};
 ghost use Rattle.federation_book.specs.KeptProjects.{IsKept, settings_of};
-ghost use Rattle.federation_book.specs.Done.{IsDone};
-ghost use Rattle.federation_book.specs.RequestSubjects.{subject_of};
+ghost use Rattle.federation_book.specs.inner.Done.{IsDone};
+ghost use Rattle.federation_book.specs.inner.RequestSubjects.{subject_of};
 
 use crate::clash_topics::clash_topic;
 use crate::comment_requests::{

@@ -5,8 +5,8 @@ ghost use Rattle.book_history.specs.History.{version_of, content_of, IsBefore};
 ghost use Rattle.book_history.specs.Refusals.{no_clash};
 ghost use Rattle.book_history.specs.Requests.{unless, noted, outcome_of};
 ghost use Rattle.federation_book.specs.KeptProjects.{IsKept, settings_of};
-ghost use Rattle.federation_book.specs.Done.{IsDone};
-ghost use Rattle.federation_book.specs.Noting.{AreGuids};
+ghost use Rattle.federation_book.specs.inner.Done.{IsDone};
+ghost use Rattle.federation_book.specs.inner.Noting.{AreGuids};
 
 use crate::noting::note;
 use crate::project_reads::read_clashes;

@@ -3,7 +3,7 @@ ghost use Rattle.std.specs.Prelude.{◌≡◌, IfOk, OnErr};
 ghost use Rattle.book_history.specs.History.{IsBefore};
 ghost use Rattle.book_history.specs.Requests.{outcome_of};
 ghost use Rattle.federation_book.specs.KeptProjects.{IsKept, settings_of};
-ghost use Rattle.federation_book.specs.Done.{IsDone, IsTold};
+ghost use Rattle.federation_book.specs.inner.Done.{IsDone, IsTold};
 
 use crate::noting::note;
 use crate::state::State;

@@ -13,7 +13,7 @@ ghost use Rattle.book_history.specs.Weights.{told, text_of, triangles_of, elemen
 ghost use Rattle.book_history.specs.Refusals.{first_of, full};
 ghost use Rattle.book_history.specs.Requests.{in_project, changed, removed, body_of, entry_by, entry_of, version_made};
 ghost use Rattle.federation_book.specs.KeptProjects.{IsKept, settings_of, unless_refused};
-ghost use Rattle.federation_book.specs.NextVersions.{IsNext, IsGridWithin};
+ghost use Rattle.federation_book.specs.inner.NextVersions.{IsNext, IsGridWithin};
 
 use crate::state::State;
 use crate::version::KeptVersion;

@@ -5,8 +5,8 @@ ghost use Rattle.book_history.specs.Weights.{text_of};
 ghost use Rattle.book_history.specs.Refusals.{first_of, not_noted};
 ghost use Rattle.book_history.specs.Requests.{noted};
 ghost use Rattle.federation_book.specs.KeptProjects.{IsKept, settings_of};
-ghost use Rattle.federation_book.specs.Done.{IsDone};
-ghost use Rattle.federation_book.specs.Noting.{clash_of, IsNote, IsFurther, Fits, IsApplied};
+ghost use Rattle.federation_book.specs.inner.Done.{IsDone};
+ghost use Rattle.federation_book.specs.inner.Noting.{clash_of, IsNote, IsFurther, Fits, IsApplied};
 
 use crate::project::left_in;
 use crate::state::State;

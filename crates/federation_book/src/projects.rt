@@ -4,7 +4,7 @@ ghost use Rattle.book_history.specs.declared.limits.TheConstants.{MOST_PROJECTS}
 ghost use Rattle.book_history.specs.History.{project_numbers};
 ghost use Rattle.book_history.specs.Requests.{outcome_of};
 ghost use Rattle.federation_book.specs.KeptProjects.{IsKept, settings_of};
-ghost use Rattle.federation_book.specs.Done.{IsTold};
+ghost use Rattle.federation_book.specs.inner.Done.{IsTold};
 
 use crate::state::State;
 use bim_model::Items;

@@ -1,6 +1,6 @@
 //! What requests are about.
 ghost use Rattle.std.specs.Prelude.{◌≡◌};
-ghost use Rattle.federation_book.specs.RequestSubjects.{subject_of};
+ghost use Rattle.federation_book.specs.inner.RequestSubjects.{subject_of};
 
 use book_history::BookRequest;
 

@@ -15,7 +15,7 @@ use Rattle.http_frame.specs.declared.types.FrameFault.TheVariants.{BadHead, Head
 use Rattle.http_frame.specs.declared.head.Plan.{Plan}
 use Rattle.http_frame.specs.declared.head.Plan.TheVariants.{Absent, Sized, Chunked}
 use Rattle.http_frame.specs.Heads.{Framing, absent, sized, chunked, badly, framing_by, framing_fault, framing, most_body, fault_of, values_of, user_by, user_of, closes, is_encoded, asks_continue}
-use Rattle.http_frame.specs.Facts.{has_value, has_other_value, user_in}
+use Rattle.http_frame.specs.inner.Facts.{has_value, has_other_value, user_in}
 use Rattle.http_frame.specs.Told.{most_by, plan_of, lacks_host, checked_by, facts_at, has_body, asks_at, IsPlan, IsFactsOf, IsAskingAs}
 
 -- ---- values

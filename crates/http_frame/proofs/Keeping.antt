@@ -24,7 +24,7 @@ use Rattle.http_frame.specs.Bodies.{ReadsBody}
 use Rattle.http_frame.specs.Events.{IsRest, IsBlank}
 use Rattle.http_frame.specs.Scan.{spot_step, spot_run}
 use Rattle.http_frame.specs.Watched.{is_early, IsWatch}
-use Rattle.http_frame.specs.RequestHeads.{IsSeen}
+use Rattle.http_frame.specs.inner.RequestHeads.{IsSeen}
 use Rattle.http_frame.specs.Chunks.{IsReading}
 use Rattle.http_frame.specs.FramerStages.{awaited_of, pending_of, IsBodyAt, IsOwed, StandsAt, IsFilled, IsSafe, Keeps, Grows, is_failed, is_before}
 use Rattle.http_frame.proofs.Lines.{head_line}

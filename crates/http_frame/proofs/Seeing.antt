@@ -21,7 +21,7 @@ use Rattle.http_frame.specs.declared.watch.Watch.{Watch}
 use Rattle.http_frame.specs.Heads.{most_head, front, first_line, has_other_version, most_body, framing, fault_of, HasOtherVersion, IsHopeless, HasHead, FailsInHead}
 use Rattle.http_frame.specs.Told.{checked_by, IsFactsOf, IsAskingAs}
 use Rattle.http_frame.specs.Watched.{IsWatch}
-use Rattle.http_frame.specs.RequestHeads.{IsPlaced, IsHeadAt, IsSeen, checked_at}
+use Rattle.http_frame.specs.inner.RequestHeads.{IsPlaced, IsHeadAt, IsSeen, checked_at}
 use Rattle.http_frame.proofs.HeadFacts.{IsChecked, is_checked, is_facts, is_asking}
 use Rattle.http_frame.proofs.StepLaws.{unfinished_is_rest}
 use Rattle.http_frame.proofs.Versions.{watched_version, head_version}

@@ -27,7 +27,7 @@ use Rattle.http_frame.specs.Heads.{Framing, chunked, framing, most_body, HasGood
 use Rattle.http_frame.specs.Bodies.{ReadsBody, FailsInBody}
 use Rattle.http_frame.specs.Events.{Begins, Fails, Asks, IsRest, IsTold}
 use Rattle.http_frame.specs.Told.{IsPlan, IsFactsOf, IsAskingAs}
-use Rattle.http_frame.specs.RequestHeads.{IsSeen}
+use Rattle.http_frame.specs.inner.RequestHeads.{IsSeen}
 use Rattle.http_frame.specs.Chunks.{IsReading, IsTaken, Advances}
 use Rattle.http_frame.specs.FramerStages.{request_by, awaited_of, pending_of, IsSized, IsBodyAt, IsBodyOf, IsOwed, StandsAt, Steps}
 use Rattle.http_frame.proofs.HeadLaws.{good_unique, good_is_no_fault}

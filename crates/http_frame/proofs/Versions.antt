@@ -19,7 +19,7 @@ use Rattle.http_frame.specs.Scan.{Parts, after_line, spot_run, IsAsked}
 use Rattle.http_frame.specs.Watched.{is_early, IsWatch}
 use Rattle.http_frame.proofs.Lines.{skip_blank, line_here, token_no_lf, uri_no_lf}
 use Rattle.http_frame.proofs.Watching.{early_is_none}
-use Rattle.http_frame.specs.HeadLines.{begins_blank, put_before}
+use Rattle.http_frame.specs.inner.HeadLines.{begins_blank, put_before}
 
 -- ---- empty lines
 

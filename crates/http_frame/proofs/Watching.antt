@@ -12,7 +12,7 @@ use Rattle.http_frame.specs.declared.field_lines.Spot.{Spot}
 use Rattle.http_frame.specs.declared.field_lines.Spot.TheVariants.{Before, BeforeCr, Line, Fields}
 use Rattle.http_frame.specs.declared.watch.Look.TheVariants.{Unfinished, Hopeless}
 use Rattle.http_frame.specs.Heads.{before, begins_lf, line_at, first_line}
-use Rattle.http_frame.specs.Judged.{IsJudged}
+use Rattle.http_frame.specs.inner.Judged.{IsJudged}
 use Rattle.http_frame.specs.Scan.{run, step, IsOpen, after_lf, after_line, IsStarted, spot_step, spot_run, IsAsked}
 use Rattle.http_frame.specs.Watched.{is_early, is_open, is_open_place, look_of, IsLook}
 use Rattle.http_frame.proofs.Lines.{head_line, may_is_hope}

@@ -1,15 +1,12 @@
 pub mod Heads
 pub mod Bodies
 pub mod Events
-pub mod Judged
 pub mod Scan
 pub mod Watched
 pub mod FramerSteps
 pub mod ChunkSizes
-pub mod Facts
-pub mod HeadLines
 pub mod Told
-pub mod RequestHeads
 pub mod Chunks
 pub mod FramerStages
 pub mod Framers
+pub mod inner

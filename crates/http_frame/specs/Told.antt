@@ -14,7 +14,7 @@ use Rattle.http_frame.specs.declared.head.HeadFacts.{HeadFacts}
 use Rattle.http_frame.specs.declared.head.Plan.{Plan}
 use Rattle.http_frame.specs.declared.head.Plan.TheVariants.{Absent, Sized, Chunked}
 use Rattle.http_frame.specs.Heads.{starts_with, Framing, absent, sized, chunked, badly, framing_by, framing, user_by, user_of, closes, is_encoded, asks_continue}
-use Rattle.http_frame.specs.Facts.{has_value, has_other_value, values_at}
+use Rattle.http_frame.specs.inner.Facts.{has_value, has_other_value, values_at}
 
 -- the most bytes of a body, by method and target
 abbrev pub most_by : List ℕ → List ℕ → ℕ

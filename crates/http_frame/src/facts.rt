@@ -5,7 +5,7 @@ ghost use Rattle.httparse.specs.Spans.{IsHeaderWithin, header_bytes};
 ghost use Rattle.http1.specs.Text.{eq_ignore_case};
 ghost use Rattle.http1.specs.Fields.{values_named, elements_named, has_option};
 ghost use Rattle.http_frame.specs.Heads.{user_by};
-ghost use Rattle.http_frame.specs.Facts.{has_name, has_value, has_other_value, values_at, IsFirst, IsOnly, user_in};
+ghost use Rattle.http_frame.specs.inner.Facts.{has_name, has_value, has_other_value, values_at, IsFirst, IsOnly, user_in};
 
 use crate::limits::MOST_USER;
 use bim_model::Text;

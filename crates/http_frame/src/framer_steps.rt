@@ -1,7 +1,7 @@
 //! The steps of a framer, from what it keeps to what it answers.
 ghost use Rattle.std.specs.Prelude.{◌≡◌, ◌≤◌, ◌<◌, ◌+◌, length, take, drop, IfOk, OnOk, OnErr, false};
 ghost use Rattle.http_frame.specs.Chunks.{IsOrdered, Advances};
-ghost use Rattle.http_frame.specs.RequestHeads.{IsSeen};
+ghost use Rattle.http_frame.specs.inner.RequestHeads.{IsSeen};
 ghost use Rattle.http_frame.specs.FramerStages.{IsSafe, Steps, request_by, pending_of};
 
 use crate::chunks::{ChunkEnd, Chunks, Part, Taken, read_chunks};

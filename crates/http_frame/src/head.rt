@@ -8,7 +8,7 @@ ghost use Rattle.httparse.specs.Spans.{IsHeaderWithin, IsWithin, header_bytes, s
 ghost use Rattle.http1.specs.Text.{eq_ignore_case};
 ghost use Rattle.http1.specs.Fields.{elements_named, has_option};
 ghost use Rattle.http_frame.specs.Heads.{starts_with, are_digits, sized, chunked, badly, framing_by};
-ghost use Rattle.http_frame.specs.Facts.{has_value, has_other_value, values_at};
+ghost use Rattle.http_frame.specs.inner.Facts.{has_value, has_other_value, values_at};
 ghost use Rattle.http_frame.specs.Told.{most_by, plan_of, lacks_host, checked_by, facts_at, asks_at, has_body};
 
 use crate::facts::{

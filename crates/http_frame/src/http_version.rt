@@ -1,7 +1,7 @@
 //! The version that the first line of a request names.
 ghost use Rattle.std.specs.Prelude.{◌≡◌, ◌≤◌, ◌<◌, ℕ, IfNone, IfSome, None, Some, length, take, drop, reverse, slice_index, bytes_eq, codes};
 ghost use Rattle.http_frame.specs.Heads.{line_at, first_line, without_cr, ends_in_version, has_other_version};
-ghost use Rattle.http_frame.specs.HeadLines.{begins_blank, begins_lf, is_current, is_version};
+ghost use Rattle.http_frame.specs.inner.HeadLines.{begins_blank, begins_lf, is_current, is_version};
 
 fn tail(bytes: &[u8], at: usize) -> &[u8]
     requires { at ≤ length bytes.now }

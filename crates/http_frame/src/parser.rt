@@ -3,7 +3,7 @@ ghost use Rattle.std.specs.Prelude.{◌≡◌, ◌≤◌, ℕ, List, length};
 ghost use Rattle.http_frame.specs.declared.limits.TheConstants.{MOST_HEAD};
 ghost use Rattle.httparse.specs.Grammar.{HasNoRequest, NeverHasRequest};
 ghost use Rattle.httparse.specs.Spans.{IsRequestOf};
-ghost use Rattle.http_frame.specs.Judged.{IsJudged, is_crowded};
+ghost use Rattle.http_frame.specs.inner.Judged.{IsJudged, is_crowded};
 
 use httparse::spans::{HeaderSpan, RequestSpans, parse_request};
 use httparse::{Error, Status};

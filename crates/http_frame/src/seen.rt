@@ -5,7 +5,7 @@ ghost use Rattle.httparse.specs.Spans.{IsRequestOf, IsRequestWithin};
 ghost use Rattle.http_frame.specs.Heads.{front, first_line, has_other_version, IsHopeless};
 ghost use Rattle.http_frame.specs.Told.{facts_at, asks_at};
 ghost use Rattle.http_frame.specs.Watched.{IsWatch};
-ghost use Rattle.http_frame.specs.RequestHeads.{IsPlaced, IsHeadAt, IsSeen, IsSeenWith};
+ghost use Rattle.http_frame.specs.inner.RequestHeads.{IsPlaced, IsHeadAt, IsSeen, IsSeenWith};
 
 use crate::head::{HeadFacts, Plan, asks, checked, facts_of};
 use crate::http_version::has_other_version;

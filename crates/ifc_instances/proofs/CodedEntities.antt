@@ -10,7 +10,7 @@ use Rattle.ifc_instances.specs.declared.entity.Entity.{Entity}
 use Rattle.ifc_instances.specs.declared.entity.Entity.TheVariants.{Project, UnitAssignment, SiUnit, Storey, Aggregates, Containment, ProductShape, Representation, Placement, AxisPlacement, Point, Direction, PointList, TriangulatedFaceSet, PolygonalFaceSet, Face, FaceWithVoids, MappedItem, RepresentationMap, Operator, ConvertedUnit, Measure, Subject}
 use Rattle.ifc_instances.specs.Entities.{keywords_of, subjects, is_of, entities, entity_of}
 use Rattle.ifc_instances.specs.EntityLookup.{is_keyword_of}
-use Rattle.ifc_instances.specs.Coded.{has_code, by_code}
+use Rattle.ifc_instances.specs.inner.Coded.{has_code, by_code}
 
 -- Each known keyword is one of an entity's exactly where its number is.
 

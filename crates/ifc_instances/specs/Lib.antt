@@ -1,4 +1,3 @@
-pub mod Coded
 pub mod Entities
 pub mod EntityLookup
-pub mod Least
+pub mod inner

@@ -157,7 +157,7 @@ const CODED: [Entity; FIRST_ELEMENT as usize] = [
 
 impl Entity {
     ghost use Rattle.std.specs.Prelude.{◌≡◌};
-    ghost use Rattle.ifc_instances.specs.Coded.{has_code, by_code};
+    ghost use Rattle.ifc_instances.specs.inner.Coded.{has_code, by_code};
     ghost use Rattle.ifc_instances.specs.EntityLookup.{entity_at, is_a};
 
     /// Whether a keyword is one of this entity's.
@@ -193,7 +193,7 @@ impl Entity {
     }
 
     /// Whether a number is that of one of its keywords.
-    #[tactic(auto, unfolding(crate::specs::Coded::has_code))]
+    #[tactic(auto, unfolding(crate::specs::inner::Coded::has_code))]
     fn has_code(self, code: u8) -> bool
         ensures { result ≡ has_code self code }
     {
@@ -225,7 +225,7 @@ impl Entity {
     }
 
     /// The entity that has a number.
-    #[tactic(auto, unfolding(crate::specs::Coded::by_code))]
+    #[tactic(auto, unfolding(crate::specs::inner::Coded::by_code))]
     fn by_code(code: u8) -> Option<Entity>
         ensures { result ≡ by_code code }
     {

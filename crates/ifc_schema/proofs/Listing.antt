@@ -17,7 +17,7 @@ use Rattle.ifc_schema.specs.Used.{Used, root, named, mapped, IsMapped, is_root}
 use Rattle.ifc_schema.specs.InstanceMarks.{rank, rank_at, mark_at, is_seen, is_mapped, Known}
 use Rattle.ifc_schema.specs.Flaws.{InstanceFlaw}
 use Rattle.ifc_schema.specs.Surveys.{UsedFlaw, SurveyFault, IsModelElement, is_model_element, is_subject, Lists, fault_of}
-use Rattle.ifc_schema.specs.InstanceFaults.{FaultAt, CheckedAt, Checked, Below}
+use Rattle.ifc_schema.specs.inner.InstanceFaults.{FaultAt, CheckedAt, Checked, Below}
 use Rattle.ifc_schema.specs.BodyRepresentations.{has_body}
 use Rattle.p21_values.proofs.PlaceLemmas.{rising, place_found, some_instance}
 use Rattle.ifc_schema.proofs.Following.{look_there, number_once, mapped_rank, rank_mapped}

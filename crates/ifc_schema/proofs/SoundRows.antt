@@ -20,7 +20,7 @@ use Rattle.ifc_schema.specs.declared.form.Count.{Count}
 use Rattle.ifc_schema.specs.declared.form.Count.TheVariants.{Exactly}
 use Rattle.ifc_schema.specs.AttributeWords.{IsNumber, IsWhole}
 use Rattle.ifc_schema.specs.Flaws.{LeafFlaw, ListFlaw, ItemsFlaw, FirstFlaw}
-use Rattle.ifc_schema.specs.SoundValues.{IsSound, Passes}
+use Rattle.ifc_schema.specs.inner.SoundValues.{IsSound, Passes}
 use Rattle.ifc_schema.proofs.Firsts.{flawed_next}
 
 -- Of one row.

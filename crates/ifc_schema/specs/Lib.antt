@@ -6,6 +6,5 @@ pub mod Flaws
 pub mod Used
 pub mod Surveys
 pub mod InstanceMarks
-pub mod InstanceFaults
 pub mod EntityViews
-pub mod SoundValues
+pub mod inner

@@ -3,7 +3,7 @@ ghost use Rattle.std.specs.Prelude.{◌≡◌};
 ghost use Rattle.std.specs.Bool.{OnTrue};
 ghost use Rattle.p21_values.specs.declared.value.Value21.{Value21};
 ghost use Rattle.p21_table.specs.ShortRows.{SaysRow};
-ghost use Rattle.ifc_schema.specs.SoundValues.{IsSound, Passes};
+ghost use Rattle.ifc_schema.specs.inner.SoundValues.{IsSound, Passes};
 ghost use Rattle.ifc_schema.specs.Forms.{fits, holds, allows_absent, allows_missing};
 ghost use Rattle.ifc_schema.specs.Flaws.{
   bad_unless,

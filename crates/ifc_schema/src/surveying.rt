@@ -5,7 +5,7 @@ ghost use Rattle.p21_values.specs.InstancePlaces.{Rises};
 ghost use Rattle.ifc_schema.specs.Used.{Used, IsMapped};
 ghost use Rattle.ifc_schema.specs.BodyRepresentations.{has_body, bodied_of};
 ghost use Rattle.ifc_schema.specs.InstanceMarks.{Known, rank_at};
-ghost use Rattle.ifc_schema.specs.InstanceFaults.{CheckedAt, Checked, Below};
+ghost use Rattle.ifc_schema.specs.inner.InstanceFaults.{CheckedAt, Checked, Below};
 ghost use Rattle.ifc_schema.specs.Surveys.{UsedFlaw, IsModelElement, Lists, Surveyed, IsSurveyError, is_model_element, fault_of};
 
 use crate::body::bodied_of;

@@ -156,55 +156,65 @@ fn file(alloc: Global, text: &[u8]) -> Result<Exchange, Fail> {
     Ok(exchange)
 }
 
+/// The factor and the power of a file's unit, or the number that the fault has.
+fn unit_of(alloc: Global, text: &[u8]) -> Result<Result<(u64, i32), u64>, Fail> {
+    let exchange = file(alloc, text)?;
+    Ok(match length_unit(&exchange) {
+        Ok(scale) => Ok((scale.factor, scale.power)),
+        Err(UploadFault::LengthUnit { id }) => Err(id),
+        Err(_) => Err(99),
+    })
+}
+
 #[test]
 fn the_length_unit_is_found(rt: HostRuntime) -> Result<(), Fail> {
     for (text, wanted) in UNITS {
-        let exchange = file(rt.alloc(), text)?;
-        let told = match length_unit(&exchange) {
-            Ok(scale) => Ok((scale.factor, scale.power)),
-            Err(UploadFault::LengthUnit { id }) => Err(id),
-            Err(_) => Err(99),
-        };
-        assert_eq!(rt; told, wanted);
+        assert_eq!(rt; unit_of(rt.alloc(), text)?, wanted);
     }
     Ok(())
 }
 
-/// The value of a measure, the prefix of its metre, and the factor of the unit that is converted to it.
-const MEASURES: [(&str, &str, Option<u64>); 33] = [
-    ("IFCLENGTHMEASURE(25.4)", ".MILLI.", Some(INCH)),
-    ("25.4", ".MILLI.", Some(INCH)),
-    ("IFCRATIOMEASURE(25.4)", ".MILLI.", Some(INCH)),
-    ("2.54E1", ".MILLI.", Some(INCH)),
-    ("25.4000009", ".MILLI.", Some(INCH)),
-    ("25.400001", ".MILLI.", None),
-    ("25.3999991", ".MILLI.", Some(INCH)),
-    ("25.399999", ".MILLI.", None),
-    ("IFCLENGTHMEASURE(-25.4)", ".MILLI.", None),
-    ("0.", ".MILLI.", None),
-    ("0.0254", "$", Some(INCH)),
-    ("0.0254000009", "$", Some(INCH)),
-    ("0.025400001", "$", None),
-    ("2.54", ".CENTI.", Some(INCH)),
-    ("0.254", ".DECI.", Some(INCH)),
-    ("25400.", ".MICRO.", Some(INCH)),
-    ("25400.001", ".MICRO.", None),
-    ("0.0000254", ".KILO.", Some(INCH)),
-    ("25.4", ".CENTI.", None),
-    ("25.4", "$", None),
-    ("IFCLENGTHMEASURE(304.8)", ".MILLI.", Some(FOOT)),
-    ("0.3048", "$", Some(FOOT)),
-    ("304.8000009", ".MILLI.", Some(FOOT)),
-    ("304.800001", ".MILLI.", None),
-    ("304.7999991", ".MILLI.", Some(FOOT)),
-    ("304.799999", ".MILLI.", None),
-    ("304.8006", ".MILLI.", None),
-    ("IFCLENGTHMEASURE(304.80060960)", ".MILLI.", None),
-    ("0.3048006096", "$", None),
-    ("914.4", ".MILLI.", None),
-    ("'25.4'", ".MILLI.", None),
-    ("$", ".MILLI.", None),
-    ("25.4", ".NANO.", None),
+const INCHES: Result<(u64, i32), u64> = Ok((INCH, -1));
+
+const FEET: Result<(u64, i32), u64> = Ok((FOOT, -1));
+
+const NONE: Result<(u64, i32), u64> = Err(1);
+
+/// The value of a measure, the prefix of its metre, and what the unit that is converted to it is.
+const MEASURES: [(&str, &str, Result<(u64, i32), u64>); 33] = [
+    ("IFCLENGTHMEASURE(25.4)", ".MILLI.", INCHES),
+    ("25.4", ".MILLI.", INCHES),
+    ("IFCRATIOMEASURE(25.4)", ".MILLI.", INCHES),
+    ("2.54E1", ".MILLI.", INCHES),
+    ("25.4000009", ".MILLI.", INCHES),
+    ("25.400001", ".MILLI.", NONE),
+    ("25.3999991", ".MILLI.", INCHES),
+    ("25.399999", ".MILLI.", NONE),
+    ("IFCLENGTHMEASURE(-25.4)", ".MILLI.", NONE),
+    ("0.", ".MILLI.", NONE),
+    ("0.0254", "$", INCHES),
+    ("0.0254000009", "$", INCHES),
+    ("0.025400001", "$", NONE),
+    ("2.54", ".CENTI.", INCHES),
+    ("0.254", ".DECI.", INCHES),
+    ("25400.", ".MICRO.", INCHES),
+    ("25400.001", ".MICRO.", NONE),
+    ("0.0000254", ".KILO.", INCHES),
+    ("25.4", ".CENTI.", NONE),
+    ("25.4", "$", NONE),
+    ("IFCLENGTHMEASURE(304.8)", ".MILLI.", FEET),
+    ("0.3048", "$", FEET),
+    ("304.8000009", ".MILLI.", FEET),
+    ("304.800001", ".MILLI.", NONE),
+    ("304.7999991", ".MILLI.", FEET),
+    ("304.799999", ".MILLI.", NONE),
+    ("304.8006", ".MILLI.", NONE),
+    ("IFCLENGTHMEASURE(304.80060960)", ".MILLI.", NONE),
+    ("0.3048006096", "$", NONE),
+    ("914.4", ".MILLI.", NONE),
+    ("'25.4'", ".MILLI.", NONE),
+    ("$", ".MILLI.", NONE),
+    ("25.4", ".NANO.", NONE),
 ];
 
 #[test]
@@ -214,13 +224,11 @@ fn inches_and_feet_are_found(rt: HostRuntime) -> Result<(), Fail> {
         let text = format!(in alloc;
             "#1=IFCPROJECT($,$,$,$,$,$,$,$,#2);#2=IFCUNITASSIGNMENT((#3));#3=IFCCONVERSIONBASEDUNIT($,.LENGTHUNIT.,'UNIT',#4);#4=IFCMEASUREWITHUNIT({value},#5);#5=IFCSIUNIT(*,.LENGTHUNIT.,{prefix},.METRE.);"
         )?;
-        let exchange = file(alloc, text.as_bytes())?;
-        let told = length_unit(&exchange);
-        let made = match wanted {
-            Some(factor) => told == Ok(Scale { factor, power: -1 }),
-            None => told == Err(UploadFault::LengthUnit { id: 1 }),
-        };
-        assert!(rt; made, "at {value} {prefix}");
+        assert_eq!(rt;
+            unit_of(alloc, text.as_bytes())?,
+            wanted,
+            "at {value} {prefix}"
+        );
     }
     Ok(())
 }

@@ -7,7 +7,7 @@ use Rattle.std.specs.Ordering.{nat_cmp, ordering_index}
 use Rattle.std.proofs.lemmas.Cmp.{ranked}
 use Rattle.std.proofs.lemmas.Bool.{lt-ltb, le-ltb}
 use Rattle.bim_text.specs.ScaledNumbers.{Scaled, signed, above, below, size_order}
-use Rattle.ifc_units.specs.RoundedLengths.{distance}
+use Rattle.ifc_units.specs.inner.RoundedLengths.{distance}
 use Rattle.ifc_units.specs.Conversions.{is_about}
 use Rattle.ifc_units.proofs.Signs.{gap_same, gap_other}
 

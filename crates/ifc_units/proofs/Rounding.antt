@@ -5,7 +5,7 @@ use Rattle.std.proofs.Math.Nat.{mul-le-mul_left, pow-le-pow_right}
 use Rattle.bim_model.specs.declared.upload.Mode.TheVariants.{Exact, Snap}
 use Rattle.bim_text.proofs.Quotients.{times, power_some}
 use Rattle.ifc_units.specs.declared.sizes.TheConstants.{UNITS, MOST, MOST_COUNT}
-use Rattle.ifc_units.specs.RoundedLengths.{distance, IsSize}
+use Rattle.ifc_units.specs.inner.RoundedLengths.{distance, IsSize}
 
 -- at the size below and at the one above
 at_whole : (n d : ℕ) → distance n (n / d * d) ≡ n % d

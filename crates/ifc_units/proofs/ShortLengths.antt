@@ -20,7 +20,7 @@ use Rattle.ifc_units.specs.declared.sizes.TheConstants.{UNITS, MOST}
 use Rattle.ifc_units.specs.declared.length_error.GridFault.{GridFault}
 use Rattle.ifc_units.specs.declared.length_error.GridFault.TheVariants.{OffGrid, TooFar}
 use Rattle.ifc_units.specs.Grid.{IsGridNumber}
-use Rattle.ifc_units.specs.RoundedLengths.{distance, IsSize, IsSizeOf}
+use Rattle.ifc_units.specs.inner.RoundedLengths.{distance, IsSize, IsSizeOf}
 use Rattle.ifc_units.specs.Lengths.{IsLength, LengthRefused}
 use Rattle.ifc_units.proofs.Signs.{times_left, grid_ok, grid_off, grid_far}
 use Rattle.ifc_units.proofs.LengthFacts.{length_here, length_refused}

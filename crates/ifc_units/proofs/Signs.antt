@@ -10,7 +10,7 @@ use Rattle.bim_text.specs.ScaledNumbers.{signed, above, below}
 use Rattle.bim_text.proofs.Powers.{signed_times, signed_size}
 use Rattle.ifc_units.specs.declared.sizes.TheConstants.{UNITS, MOST}
 use Rattle.ifc_units.specs.Grid.{gap, IsGridNumber}
-use Rattle.ifc_units.specs.RoundedLengths.{distance, IsSize, IsSizeOf}
+use Rattle.ifc_units.specs.inner.RoundedLengths.{distance, IsSize, IsSizeOf}
 
 -- the difference of two numbers of one sign, and of two signs
 same_sign : (b : Bool) (m n : ℕ) → unsigned_abs (signed b m -ℤ signed b n) ≡ distance m n

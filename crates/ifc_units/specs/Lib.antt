@@ -4,4 +4,4 @@ pub mod Metres
 pub mod Conversions
 pub mod Units
 pub mod Lengths
-pub mod RoundedLengths
+pub mod inner

@@ -3,7 +3,7 @@ ghost use Rattle.std.specs.Prelude.{◌≡◌, ℕ, ◌^◌, ◌<◌, ◌≤◌,
 ghost use Rattle.bim_text.specs.ScaledNumbers.{signed};
 ghost use Rattle.ifc_units.specs.Grid.{IsGridNumber, length_of};
 ghost use Rattle.ifc_units.specs.Lengths.{units, reach};
-ghost use Rattle.ifc_units.specs.RoundedLengths.{IsSizeOf};
+ghost use Rattle.ifc_units.specs.inner.RoundedLengths.{IsSizeOf};
 
 use crate::length_error::GridFault;
 use crate::scale::Scale;

@@ -1,6 +1,6 @@
 //! Lengths without their signs, brought to the grid.
 ghost use Rattle.std.specs.Prelude.{◌≡◌, ℕ, ◌+◌, ◌*◌, ◌^◌, ◌<◌, ◌≤◌, IfSome, IfNone};
-ghost use Rattle.ifc_units.specs.RoundedLengths.{IsSize};
+ghost use Rattle.ifc_units.specs.inner.RoundedLengths.{IsSize};
 
 use bim_model::{FARTHEST, Mode, PER_MM};
 

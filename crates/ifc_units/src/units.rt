@@ -196,7 +196,7 @@ fn scale_of(exchange: &Exchange) -> Option<Scale>
 /// project is assigned (IFC4 ADD2 TC1, IfcUnitAssignment, IfcSIUnit, IfcConversionBasedUnit). A unit that stands twice in them is one, and
 /// units of other entities are passed over. `LengthUnit` with the number of the least project, else 0, if there isn't exactly one project,
 /// its units aren't assigned, there isn't exactly one unit of length, or that one is neither a metre with a prefix from micro to kilo nor
-/// converted to one as the inch of 25.4 mm or the foot of 304.8 mm. Takes no memory.
+/// converted to one as the inch of 25.4 mm or the foot of 304.8 mm, each less than a millionth of a millimetre off. Takes no memory.
 pub fn length_unit(exchange: &Exchange) -> Result<Scale, UploadFault>
     ensures unit { IfOk result (IsLengthUnit exchange.now) }
     ensures clear { IfOk result (λ scale. (fault : UploadFault) → LengthUnitFault exchange.now fault → ⊥) }

@@ -1,7 +1,7 @@
 //! Workers over a book with two buckets.
 ghost use Rattle.std.specs.Prelude.{IfSome};
 ghost use Rattle.book_turn.specs.Passes.{BelongsTo};
-ghost use Rattle.federation_book.specs.AnyTime.{IsFree};
+ghost use Rattle.federation_book.specs.inner.AnyTime.{IsFree};
 
 use bim_model::{
     ClassTest, Distance, Element, Guid, Items, Model, ModelTest, PER_MM, Point, Rule, RuleKind,

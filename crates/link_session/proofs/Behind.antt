@@ -4,7 +4,7 @@ use Rattle.bim_io.specs.StreamViews.{Outside, EndsEmpty}
 use Rattle.book_passes.specs.Lessons.{CallerSeen}
 use Rattle.bim_session.specs.declared.end.SessionEnd.{SessionEnd}
 use Rattle.bim_session.specs.Talking.{TalkState}
-use Rattle.link_session.specs.Loop.{WorksOn, WorksAfter, StepsAndWorks}
+use Rattle.link_session.specs.inner.Loop.{WorksOn, WorksAfter, StepsAndWorks}
 use Rattle.link_session.specs.declared.session.Progress.{Progress}
 use Rattle.link_session.specs.declared.session.Progress.TheVariants.{Again, End}
 use Rattle.link_session.proofs.SoFar.{Service, SoFar, Owes, Goes, GoesBehind, Finishes}

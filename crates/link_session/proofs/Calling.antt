@@ -16,7 +16,7 @@ use Rattle.book_passes.proofs.Learning.{takes_call, takes_idly}
 use Rattle.link_session.specs.declared.session.Progress.{Progress}
 use Rattle.link_session.specs.declared.session.Progress.TheVariants.{Again, End}
 use Rattle.link_session.specs.Callers.{Calls, steps_of}
-use Rattle.link_session.specs.Loop.{Going, Called, Writing}
+use Rattle.link_session.specs.inner.Loop.{Going, Called, Writing}
 
 wrote_for : (settings : Settings) (goes : Going) (call : BookRequest) (x y : SinkSeen) (talk talk' : TalkState) (server server' : CallerSeen) (waiting : Waiting)
     (receipt : Result BookReceipt CallFault) (bytes : List ℕ) (result : Progress)

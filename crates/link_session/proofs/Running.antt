@@ -6,7 +6,7 @@ use Rattle.http_frame.specs.Framers.{Stands}
 use Rattle.bim_session.specs.declared.end.SessionEnd.{SessionEnd}
 use Rattle.bim_session.specs.declared.end.SessionEnd.TheVariants as end
 use Rattle.bim_session.specs.Talking.{TalkState, IsOwnLeaving, KeepsNone, fresh}
-use Rattle.link_session.specs.Loop.{StepsAndWorks}
+use Rattle.link_session.specs.inner.Loop.{StepsAndWorks}
 use Rattle.link_session.specs.declared.session.Progress.{Progress}
 use Rattle.link_session.specs.declared.session.Progress.TheVariants.{Again, End}
 use Rattle.link_session.proofs.SoFar.{Service, SoFar, GoesBehind, Finishes}

@@ -13,7 +13,7 @@ use Rattle.bim_session.specs.Session.{Stop, Ends, Reads, Answered, IsBare, behin
 use Rattle.bim_session.specs.Replay.{ReadsAsNeeded}
 use Rattle.bim_session.specs.Talking.{TalkState}
 use Rattle.link_session.specs.Callers.{CallerLaws, start_of}
-use Rattle.link_session.specs.Loop.{Going}
+use Rattle.link_session.specs.inner.Loop.{Going}
 use Rattle.link_session.specs.CallerSessions.{Serves}
 use Rattle.link_session.specs.declared.session.Progress.{Progress}
 use Rattle.link_session.specs.declared.session.Progress.TheVariants.{Again, End}

@@ -28,7 +28,7 @@ use Rattle.bim_session.specs.Session as session
 use Rattle.bim_session.specs.Replay.{IsReadFault, IsWriteFault}
 use Rattle.bim_session.specs.Talking.{TalkState, BookReceipt, Wants, LacksNext, Continues, AnswersOne, AnswersFault, TakesRequest, MeetsEnd, IsOwnWant, AnswersAtOnce, AnswersCall, LeavesCall, with_answer, with_call, with_framer, with_notes, leaving_after, asks_change, waiting_for}
 use Rattle.link_session.specs.Callers.{LearnsBy, Calls, steps_of}
-use Rattle.link_session.specs.Loop.{Reading, StopsReading, Writing, Called, StopsAnswering, Does, StepsOn}
+use Rattle.link_session.specs.inner.Loop.{Reading, StopsReading, Writing, Called, StopsAnswering, Does, StepsOn}
 use Rattle.bim_io.specs.Writes.{WritesLess}
 use Rattle.link_session.specs.declared.session.Progress.{Progress}
 use Rattle.link_session.specs.declared.session.Progress.TheVariants.{Again, End}

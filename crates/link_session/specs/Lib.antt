@@ -1,3 +1,3 @@
 pub mod Callers
 pub mod CallerSessions
-pub mod Loop
+pub mod inner

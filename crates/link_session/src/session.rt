@@ -4,7 +4,7 @@ ghost use Rattle.bim_io.specs.StreamViews.{outside};
 ghost use Rattle.bcf_http.specs.Asked.{BringsNone};
 ghost use Rattle.link_session.specs.Callers.{CallerLaws};
 ghost use Rattle.link_session.specs.CallerSessions.{Serves};
-ghost use Rattle.link_session.specs.Loop.{Reading, Writing, Called, StepsOn, WorksOn, StepsAndWorks};
+ghost use Rattle.link_session.specs.inner.Loop.{Reading, Writing, Called, StepsOn, WorksOn, StepsAndWorks};
 
 use crate::caller::Caller;
 use bim_io::{Clock, Sink, Source, write_whole};

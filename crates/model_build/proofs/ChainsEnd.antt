@@ -11,7 +11,7 @@ use Rattle.placement.specs.Chains.{IsLoopCause}
 use Rattle.model_build.specs.StageFaults.{IsClear, LeastFault}
 use Rattle.model_build.specs.NamedPlacements.{IsNamed, ListsNamed}
 use Rattle.model_build.specs.Stages.{LoopFault}
-use Rattle.model_build.specs.Outcomes.{IsErrorOf, HasChains}
+use Rattle.model_build.specs.inner.Outcomes.{IsErrorOf, HasChains}
 
 -- what is listed as named is named by those that the list of numbers lists, and all that these name is listed
 pub listed_named : (world : List Instance) (Of : ℕ → Type 0) (ids named : List ℕ) (placement : ℕ) → Lists Of ids → ListsNamed world ids named → Contains named placement → IsNamed world Of placement

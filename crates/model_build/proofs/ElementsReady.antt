@@ -35,7 +35,7 @@ use Rattle.model_build.specs.LengthFaults.{LengthFault, told_of}
 use Rattle.ifc_elements.specs.Items.{bodies, spelled_items, is_mapped_item, spelled_sets, counted, count_of}
 use Rattle.model_build.specs.FaultyInstances.{IsBadSet, IsOblique}
 use Rattle.ifc_elements.specs.Sound.{IsSoundSet, ReadySet, ReadyMapped, ReadyItem, ReadyBody}
-use Rattle.model_build.specs.Outcomes.{HasChains, IsMeasured, AreReady, AreSound}
+use Rattle.model_build.specs.inner.Outcomes.{HasChains, IsMeasured, AreReady, AreSound}
 use Rattle.ifc_elements.specs.ElementReadiness.{IsStanding, IsReady}
 use Rattle.model_build.proofs.AttributesFormed.{Shaped, At, OrAway, SpellsNumber, ListOf}
 use Rattle.model_build.proofs.UsedFormed.{ThreeOf, NamesUsed, named_at, point_numbers, list_numbers, listed_there, element_guid, guid_there, placement_used}

@@ -16,7 +16,7 @@ use Rattle.model_build.specs.FaultyInstances.{NoneOf, IsVoided, IsOblique}
 use Rattle.model_build.specs.Unsupported.{IsUnsupported}
 use Rattle.model_build.specs.Faces.{IsStuckFace}
 use Rattle.model_build.specs.Stages.{FormStage, UnitStage, TreeStage, TwiceStage, LoopStage, ObliqueStage, ItemStage, VoidStage, IndexStage, LengthStage, CornersStage, StuckStage, TrianglesStage, ReachStage, InUnit, stages, FileFault}
-use Rattle.model_build.specs.Outcomes.{IsErrorOf, AreMeasured, IsOpened, IsSupported, IsMeasured, IsCut}
+use Rattle.model_build.specs.inner.Outcomes.{IsErrorOf, AreMeasured, IsOpened, IsSupported, IsMeasured, IsCut}
 use Rattle.model_build.proofs.FirstOfStages.{stop, pass, AllClear, all_clear, unit_clear}
 use Rattle.model_build.proofs.StagesClear.{survey_clear, tree_clear, square_clear, items_clear, voids_clear, indexes_clear, measured_clear, corners_clear}
 use Rattle.model_build.proofs.RepeatedGuids.{repeats_clear}

@@ -10,7 +10,7 @@ use Rattle.ifc_units.specs.Units.{IsLengthUnit}
 use Rattle.ifc_units.proofs.UnitFacts.{one_unit}
 use Rattle.model_build.specs.StageFaults.{Stage, IsClear, first_fault}
 use Rattle.model_build.specs.Stages.{InUnit}
-use Rattle.model_build.specs.Outcomes.{IsErrorOf}
+use Rattle.model_build.specs.inner.Outcomes.{IsErrorOf}
 
 -- the fault of the first stage
 pub stop : (S : Stage) (rest : List Stage) (e : BuildError) → IsErrorOf S e → IsErrorOf (first_fault (S ∷ rest)) e

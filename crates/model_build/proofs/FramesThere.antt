@@ -23,7 +23,7 @@ use Rattle.placement.specs.Placed.{IsLocation, OwnFrame, LacksFrame}
 use Rattle.model_build.specs.Stages.{IsUsed}
 use Rattle.model_build.specs.LengthFaults.{told_of}
 use Rattle.model_build.specs.NamedPlacements.{IsNamed}
-use Rattle.model_build.specs.Outcomes.{IsMeasured}
+use Rattle.model_build.specs.inner.Outcomes.{IsMeasured}
 use Rattle.model_build.proofs.AttributesFormed.{Shaped}
 use Rattle.model_build.proofs.UsedFormed.{point_numbers, location_used, parent_used, axes_used, placement_used}
 use Rattle.p21_values.proofs.ValueLemmas.{refers_absent}

@@ -4,9 +4,9 @@ use Rattle.std.specs.Prelude.{nat_lt}
 use Rattle.std.proofs.lemmas.List.{take_more, get_or_default}
 use Rattle.std.proofs.lemmas.List.Elements.{Contains-append_left, Contains-append_right, Contains-append_cases}
 use Rattle.std.proofs.lemmas.Bool.{ltb-true, ltb-false}
-use Rattle.ifc_instances.specs.Least.{IsLeast, LeastOf}
+use Rattle.ifc_instances.specs.inner.Least.{IsLeast, LeastOf}
 use Rattle.model_build.specs.FaultyInstances.{ShownBy}
-use Rattle.model_build.specs.Showing.{lesser}
+use Rattle.model_build.specs.inner.Showing.{lesser}
 
 -- what is least of one thing is least of another that holds of the same numbers
 pub same_least : (P Q : ℕ → Type 0) (found : Option ℕ) → ((id : ℕ) → P id → Q id) → ((id : ℕ) → Q id → P id) → LeastOf P found → LeastOf Q found

@@ -18,7 +18,7 @@ use Rattle.ifc_units.proofs.Unique.{unique}
 use Rattle.model_build.specs.declared.mapping.Lies.{Lies}
 use Rattle.model_build.specs.declared.mapping.Lies.TheVariants.{AtZero, OffZero, Between}
 use Rattle.model_build.specs.Unsupported.{HasGridNumber, IsSome, IsAwayValue}
-use Rattle.model_build.specs.Showing.{HasPlace, are_away}
+use Rattle.model_build.specs.inner.Showing.{HasPlace, are_away}
 
 few : units < 500
 few = omega arith

@@ -19,9 +19,9 @@ use Rattle.placement.proofs.Square.{square}
 use Rattle.bim_text.specs.Decimals.{WritesWhole}
 use Rattle.faceset.specs.Indexes.{PointsAt, PointsNowhere}
 use Rattle.ifc_elements.specs.Items.{is_mapped_item}
-use Rattle.ifc_instances.specs.Least.{LeastOf}
+use Rattle.ifc_instances.specs.inner.Least.{LeastOf}
 use Rattle.model_build.specs.Unsupported.{IsNotOne, IsTurned, IsAway, IsOtherOrigin, plain_axes}
-use Rattle.model_build.specs.Showing.{lesser, ItemShows, NamesNoTarget}
+use Rattle.model_build.specs.inner.Showing.{lesser, ItemShows, NamesNoTarget}
 use Rattle.placement.proofs.OneFrame.{one_axes, same_axes}
 use Rattle.model_build.proofs.LeastOfParts.{same_least, lesser_least}
 use Rattle.model_build.proofs.OtherItems.{finding}

@@ -9,8 +9,8 @@ use Rattle.p21_values.specs.Values.{reference_of}
 use Rattle.ifc_schema.specs.BodyRepresentations.{is_body_representation}
 use Rattle.ifc_elements.specs.Finding.{Finds}
 use Rattle.ifc_elements.specs.Items.{spelled_items}
-use Rattle.ifc_instances.specs.Least.{LeastOf}
-use Rattle.model_build.specs.Showing.{lesser, HasOther, HasInner, BodyShows, MapShows}
+use Rattle.ifc_instances.specs.inner.Least.{LeastOf}
+use Rattle.model_build.specs.inner.Showing.{lesser, HasOther, HasInner, BodyShows, MapShows}
 use Rattle.model_build.proofs.LeastOfParts.{InParts, least_none, least_added, same_least, lesser_least}
 
 -- one of the values refers to that instance, and it holds of it

@@ -11,7 +11,7 @@ use Rattle.p21_reader.specs.Uploads as reader
 use Rattle.model_build.specs.StageFaults.{IsClear}
 use Rattle.model_build.specs.Profile.{IsModelOf, Profile, IsCause}
 use Rattle.model_build.specs.Stages.{FileFault}
-use Rattle.model_build.specs.Outcomes.{IsErrorOf}
+use Rattle.model_build.specs.inner.Outcomes.{IsErrorOf}
 
 -- the answer for the instances of a file that was made of these is that for these
 

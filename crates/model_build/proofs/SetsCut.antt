@@ -12,7 +12,7 @@ use Rattle.model_build.specs.Faces.{IsStuckFace}
 use Rattle.ifc_elements.specs.Surfaces.{SetSurface}
 use Rattle.ifc_elements.specs.Sound.{AreSets, IsUncut}
 use Rattle.model_build.specs.Stages.{StuckStage}
-use Rattle.model_build.specs.Outcomes.{AreSound}
+use Rattle.model_build.specs.inner.Outcomes.{AreSound}
 use Rattle.p21_values.proofs.ValueLemmas.{one}
 use Rattle.ifc_elements.proofs.OneSet.{own_points, set_unstuck}
 

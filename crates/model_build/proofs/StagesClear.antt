@@ -9,7 +9,7 @@ use Rattle.model_build.specs.StageFaults.{IsClear, LeastFault}
 use Rattle.model_build.specs.Unsupported.{IsUnsupported}
 use Rattle.model_build.specs.Stages.{FormStage, TreeStage, ObliqueStage, ItemStage, VoidStage, IndexStage, LengthStage, CornersStage}
 use Rattle.model_build.specs.FaultyInstances.{NoneOf, IsVoided, IsBadSet, IsOblique}
-use Rattle.model_build.specs.Outcomes.{HaveFewCorners, AreMeasured}
+use Rattle.model_build.specs.inner.Outcomes.{HaveFewCorners, AreMeasured}
 use Rattle.ifc_schema.specs.declared.outcome.Survey.{Survey}
 use Rattle.ifc_schema.proofs.Apart.{used_apart}
 use Rattle.bim_model.specs.declared.upload.UploadFault.{UploadFault}

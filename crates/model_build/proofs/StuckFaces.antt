@@ -19,10 +19,10 @@ use Rattle.p21_values.specs.Attributes.{listed, reference_at}
 use Rattle.ifc_elements.specs.PointTables.{ListsPoints}
 use Rattle.ifc_elements.specs.Surfaces.{SetPoints}
 use Rattle.model_build.specs.Faces.{IsStuckFace}
-use Rattle.ifc_instances.specs.Least.{IsLeast, LeastOf}
+use Rattle.ifc_instances.specs.inner.Least.{IsLeast, LeastOf}
 use Rattle.model_build.specs.FaultyInstances.{ShownBy}
 use Rattle.model_build.specs.Stages.{StuckStage}
-use Rattle.model_build.specs.Outcomes.{ShowsStuckSet}
+use Rattle.model_build.specs.inner.Outcomes.{ShowsStuckSet}
 use Rattle.model_build.proofs.AttributesFormed.{Shaped}
 use Rattle.model_build.proofs.UsedFormed.{named_at}
 use Rattle.model_build.proofs.SetsFormed.{set_points}

@@ -17,10 +17,10 @@ use Rattle.ifc_schema.specs.Used.{Used, IsMapped, named}
 use Rattle.ifc_schema.specs.Surveys.{Lists}
 use Rattle.ifc_units.specs.declared.scale.Scale.{Scale}
 use Rattle.ifc_elements.specs.Items.{spelled_items}
-use Rattle.ifc_instances.specs.Least.{IsLeast, LeastOf}
+use Rattle.ifc_instances.specs.inner.Least.{IsLeast, LeastOf}
 use Rattle.model_build.specs.FaultyInstances.{ShownBy}
 use Rattle.model_build.specs.Unsupported.{ListsItem, ListsOther, ListsNested, Shows, IsUnsupported}
-use Rattle.model_build.specs.Showing.{lesser, BodyShows, MapShows, ItemShows}
+use Rattle.model_build.specs.inner.Showing.{lesser, BodyShows, MapShows, ItemShows}
 use Rattle.model_build.specs.Stages.{ItemStage}
 use Rattle.model_build.proofs.AttributesFormed.{in_row}
 use Rattle.model_build.proofs.OtherItems.{finding}

@@ -5,9 +5,8 @@ pub mod FaultyInstances
 pub mod LengthFaults
 pub mod NamedPlacements
 pub mod Order
-pub mod Outcomes
 pub mod Profile
-pub mod Showing
 pub mod Stages
 pub mod Triangles
 pub mod Unsupported
+pub mod inner

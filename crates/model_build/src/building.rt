@@ -4,7 +4,7 @@ ghost use Rattle.bim_model.specs.declared.upload.Mode.{Mode};
 ghost use Rattle.p21_values.specs.declared.value.Instance.{Instance};
 ghost use Rattle.model_walk.specs.Walked.{IsWalked};
 ghost use Rattle.model_build.specs.StageFaults.{IsClear};
-ghost use Rattle.model_build.specs.Outcomes.{IsErrorOf};
+ghost use Rattle.model_build.specs.inner.Outcomes.{IsErrorOf};
 ghost use Rattle.model_build.specs.Profile.{IsModelOf, Profile, IsCause};
 ghost use Rattle.model_build.specs.Stages.{FileFault};
 

@@ -12,7 +12,7 @@ ghost use Rattle.model_build.specs.FaultyInstances.{NoneOf, IsVoided, IsBadSet, 
 ghost use Rattle.model_build.specs.NamedPlacements.{IsNamed};
 ghost use Rattle.ifc_elements.specs.PointTables.{IsTable};
 ghost use Rattle.ifc_elements.specs.Shapes.{AreShapes};
-ghost use Rattle.model_build.specs.Outcomes.{IsErrorOf, HasChains, HaveFewCorners};
+ghost use Rattle.model_build.specs.inner.Outcomes.{IsErrorOf, HasChains, HaveFewCorners};
 
 use crate::counts::count_triangles;
 use crate::guids::first_repeated;

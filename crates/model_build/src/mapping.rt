@@ -1,10 +1,10 @@
 //! Ways of mapping that aren't read (IFC4 ADD2 TC1, IfcMappedItem, IfcRepresentationMap, IfcCartesianTransformationOperator3D).
 ghost use Rattle.std.specs.Prelude.{◌≡◌, ℕ, MatchOption};
 ghost use Rattle.std.specs.Bool.{MatchBool};
-ghost use Rattle.ifc_instances.specs.Least.{LeastOf};
+ghost use Rattle.ifc_instances.specs.inner.Least.{LeastOf};
 ghost use Rattle.model_build.specs.FaultyInstances.{ShownBy};
 ghost use Rattle.model_build.specs.Unsupported.{IsNotOne, IsNoTarget, IsAway, IsAwayValue, IsTurned, IsOtherOrigin};
-ghost use Rattle.model_build.specs.Showing.{ItemShows, NamesNoTarget, HasPlace, are_away};
+ghost use Rattle.model_build.specs.inner.Showing.{ItemShows, NamesNoTarget, HasPlace, are_away};
 
 use crate::unsupported::lesser;
 use bim_model::Mode;

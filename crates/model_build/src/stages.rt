@@ -8,7 +8,7 @@ ghost use Rattle.ifc_elements.specs.Shapes.{AreShapes};
 ghost use Rattle.ifc_elements.specs.Sound.{AreSets};
 ghost use Rattle.model_build.specs.StageFaults.{IsClear};
 ghost use Rattle.model_build.specs.Stages.{TrianglesStage, FileFault};
-ghost use Rattle.model_build.specs.Outcomes.{IsErrorOf, IsOpened, IsSupported, IsMeasured, IsCut, AreReady};
+ghost use Rattle.model_build.specs.inner.Outcomes.{IsErrorOf, IsOpened, IsSupported, IsMeasured, IsCut, AreReady};
 ghost use Rattle.model_build.specs.Profile.{IsModelOf};
 
 use crate::checks::{

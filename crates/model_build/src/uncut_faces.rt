@@ -1,9 +1,9 @@
 //! Faces that can't be cut.
 ghost use Rattle.std.specs.Prelude.{◌≡◌, ℕ, IfOk};
 ghost use Rattle.ifc_elements.specs.PointTables.{IsTable};
-ghost use Rattle.ifc_instances.specs.Least.{LeastOf};
+ghost use Rattle.ifc_instances.specs.inner.Least.{LeastOf};
 ghost use Rattle.model_build.specs.FaultyInstances.{ShownBy};
-ghost use Rattle.model_build.specs.Outcomes.{ShowsStuckSet};
+ghost use Rattle.model_build.specs.inner.Outcomes.{ShowsStuckSet};
 
 use crate::unsupported::lesser;
 use bim_model::{Items, Mode, Point};

@@ -2,9 +2,9 @@
 ghost use Rattle.std.specs.Prelude.{◌≡◌, ℕ, ◌<◌, ◌∷◌, [], Contains, MatchOption};
 ghost use Rattle.ifc_schema.specs.BodyRepresentations.{is_body_representation};
 ghost use Rattle.ifc_elements.specs.Finding.{Finds};
-ghost use Rattle.ifc_instances.specs.Least.{LeastOf};
+ghost use Rattle.ifc_instances.specs.inner.Least.{LeastOf};
 ghost use Rattle.model_build.specs.FaultyInstances.{ShownBy};
-ghost use Rattle.model_build.specs.Showing.{lesser, HasOther, HasInner, BodyShows, MapShows};
+ghost use Rattle.model_build.specs.inner.Showing.{lesser, HasOther, HasInner, BodyShows, MapShows};
 
 use ifc_elements::{is_body_representation, is_item, is_mapped_item, spelled_items};
 use p21_table::{Exchange, ValueRef, Values};

@@ -19,7 +19,7 @@ use Rattle.faceset.specs.FaceSets.{is_set}
 use Rattle.walk_rows.specs.Rows.{triangles_at}
 use Rattle.model_walk.specs.declared.set_pool.SetRows.{SetRows}
 use Rattle.model_walk.specs.Clean.{ShowsNone, IsClean}
-use Rattle.model_walk.specs.PooledSets.{HasPoints, IsRead}
+use Rattle.model_walk.specs.inner.PooledSets.{HasPoints, IsRead}
 use Rattle.model_walk.proofs.SetEntities.{list_no_set}
 use Rattle.model_walk.proofs.SetForms.{listed_is, list_formed}
 

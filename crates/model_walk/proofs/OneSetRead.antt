@@ -24,7 +24,7 @@ use Rattle.walk_rows.specs.SetRows.{HasNumbering, NamesPoints, NamesFaces}
 use Rattle.walk_rows.proofs.IndexesNamed.{set_good}
 use Rattle.walk_rows.proofs.RowsCounted.{set_count}
 use Rattle.model_walk.specs.declared.set_pool.SetRows.{SetRows}
-use Rattle.model_walk.specs.PooledSets.{ArePooled, IsRead}
+use Rattle.model_walk.specs.inner.PooledSets.{ArePooled, IsRead}
 use Rattle.model_walk.proofs.SetForms.{set_formed}
 
 -- points of a pool lie on the grid

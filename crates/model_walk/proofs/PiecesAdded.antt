@@ -30,10 +30,10 @@ use Rattle.ifc_elements.proofs.OneSurface.{same_map}
 use Rattle.ifc_elements.proofs.TrianglesAdded.{joined_first, joined_length, mapped_kept, set_kept}
 use Rattle.model_walk.specs.declared.set_pool.SetRows.{SetRows}
 use Rattle.model_walk.specs.declared.shape_pieces.Piece.{Piece}
-use Rattle.model_walk.specs.PooledSets.{IsRead, AreReadSets}
-use Rattle.model_walk.specs.SurfacePieces.{AddsShown, IsOperator, Carried}
+use Rattle.model_walk.specs.inner.PooledSets.{IsRead, AreReadSets}
+use Rattle.model_walk.specs.inner.SurfacePieces.{AddsShown, IsOperator, Carried}
 use Rattle.model_walk.specs.Sketches.{IsCarried, rows_with, kept_triangles, piece_triangles, pieces_triangles}
-use Rattle.model_walk.specs.Stocked.{AddsPieces}
+use Rattle.model_walk.specs.inner.Stocked.{AddsPieces}
 use Rattle.walk_rows.specs.Pools.{pooled}
 use Rattle.walk_rows.specs.Rows.{triangle_at, triangles_at}
 

@@ -28,9 +28,9 @@ use Rattle.model_walk.specs.declared.sketch_list.Sketch.{Sketch}
 use Rattle.model_walk.specs.declared.element_sketches.Stock.{Stock}
 use Rattle.model_walk.specs.declared.shape_pieces.Piece.{Piece}
 use Rattle.model_walk.specs.declared.shape_pieces.Range.{Range}
-use Rattle.model_walk.specs.PooledSets.{AreReadSets}
+use Rattle.model_walk.specs.inner.PooledSets.{AreReadSets}
 use Rattle.model_walk.specs.Sketches.{rows_with, pieces_triangles, pieces_in, range_triangles, IsCarried, IsSoundStock, IsRangeIn, IsNearSketch}
-use Rattle.model_walk.specs.Stocked.{AddsPieces, shape_items, ShowsItems, IsStocked, Grows}
+use Rattle.model_walk.specs.inner.Stocked.{AddsPieces, shape_items, ShowsItems, IsStocked, Grows}
 use Rattle.walk_rows.specs.Pools.{pooled, Pools}
 
 -- Lists that grow.

@@ -20,7 +20,7 @@ use Rattle.ifc_units.specs.declared.scale.Scale.{Scale}
 use Rattle.model_walk.specs.declared.set_pool.SetRows.{SetRows}
 use Rattle.model_walk.specs.Clean.{IsClean}
 use Rattle.model_walk.specs.Checked.{IsCleanBy, CleanThere, AllClean}
-use Rattle.model_walk.specs.PooledSets.{HasPoints, ArePooled, HasLists, IsRead, AreReadSets}
+use Rattle.model_walk.specs.inner.PooledSets.{HasPoints, ArePooled, HasLists, IsRead, AreReadSets}
 use Rattle.walk_rows.specs.Pools.{pooled, Pools}
 
 -- The instance at a place.

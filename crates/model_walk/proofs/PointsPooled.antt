@@ -16,7 +16,7 @@ use Rattle.ifc_schema.specs.declared.worklist.Work.{Work}
 use Rattle.ifc_schema.specs.InstanceMarks.{rank, rank_at, is_seen}
 use Rattle.ifc_units.specs.declared.scale.Scale.{Scale}
 use Rattle.walk_rows.specs.Pools.{pooled, Pools}
-use Rattle.model_walk.specs.PooledSets.{HasPoints, ArePooled, HasLists}
+use Rattle.model_walk.specs.inner.PooledSets.{HasPoints, ArePooled, HasLists}
 
 -- Pools.
 

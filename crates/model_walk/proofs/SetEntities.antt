@@ -5,7 +5,7 @@ use Rattle.ifc_keywords.specs.Codes.{code_at}
 use Rattle.p21_values.specs.declared.value.Instance.{Instance}
 use Rattle.ifc_instances.specs.declared.entity.Entity.{Entity}
 use Rattle.ifc_instances.specs.declared.entity.Entity.TheVariants as entity
-use Rattle.ifc_instances.specs.Coded.{has_code, by_code}
+use Rattle.ifc_instances.specs.inner.Coded.{has_code, by_code}
 use Rattle.ifc_instances.specs.Entities.{is_of}
 use Rattle.ifc_instances.specs.EntityLookup.{entity_at, is_a, is_keyword_of}
 use Rattle.ifc_instances.proofs.CodedEntities.{is_a_coded, entity_coded}

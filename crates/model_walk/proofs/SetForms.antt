@@ -37,7 +37,7 @@ use Rattle.ifc_units.specs.Lengths.{IsPoint, ArePoints}
 use Rattle.faceset.specs.FaceSets.{is_set, is_polygonal, numbering, numbering_place, faces_of, IsCut, IsTriangle, AreTriangles, Joined, SetTriangles}
 use Rattle.faceset.proofs.Zips.{zip_length}
 use Rattle.walk_rows.specs.SetRows.{HasNumbering, NamesOne, NamesPoints, LeadsToFace, NamesFaces}
-use Rattle.model_walk.specs.PooledSets.{HasPoints}
+use Rattle.model_walk.specs.inner.PooledSets.{HasPoints}
 use Rattle.model_walk.proofs.FormsRead.{whole_leaf, rows_formed, points_formed}
 use Rattle.model_walk.proofs.SetEntities.{list_entity, triangulated_entity, triangulated_set, polygonal_entity, held_one, held_face}
 

@@ -27,7 +27,7 @@ use Rattle.model_walk.specs.declared.element_sketches.Placing.TheVariants.{By}
 use Rattle.model_walk.specs.declared.sketch_list.Sketch.{Sketch}
 use Rattle.model_walk.specs.declared.element_sketches.Stock.{Stock}
 use Rattle.model_walk.specs.Sketches.{range_triangles, element_of, elements_of, IsNearSketch}
-use Rattle.model_walk.specs.Stocked.{IsStocked, Grows, IsPlacing, IsSketch, Draws, AreDrawn}
+use Rattle.model_walk.specs.inner.Stocked.{IsStocked, Grows, IsPlacing, IsSketch, Draws, AreDrawn}
 use Rattle.model_walk.proofs.ElementsSurfaced.{elements_more}
 use Rattle.model_walk.proofs.PiecesKept.{same_stock, grows_twice, range_same, near_still, sound_stock}
 

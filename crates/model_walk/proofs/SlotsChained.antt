@@ -5,7 +5,7 @@ use Rattle.std.proofs.lemmas.Slice.Eq.{bytes_eq-Decides}
 use Rattle.std.proofs.lemmas.List.{get_or_append_left, get_or-set_same, get_or-set_other, get_or_push, get_or_default, get_or-map, length_push, length-map}
 use Rattle.bim_model.specs.declared.element.Element.{Element}
 use Rattle.model_walk.specs.Checked.{Differ}
-use Rattle.model_walk.specs.GuidSlots.{slot_seen, guids_seen, IsLastOf, AreNoted, AreChained, IsNew, IsSought}
+use Rattle.model_walk.specs.inner.GuidSlots.{slot_seen, guids_seen, IsLastOf, AreNoted, AreChained, IsNew, IsSought}
 use Rattle.model_walk.proofs.KeysDiffer.{from_keys}
 
 abbrev guid_chars : Element → List ℕ

@@ -18,7 +18,7 @@ use Rattle.ifc_elements.proofs.OneSurface.{same_map}
 use Rattle.ifc_elements.proofs.TrianglesMoved.{corners_append}
 use Rattle.model_walk.specs.declared.set_pool.SetRows.{SetRows}
 use Rattle.model_walk.specs.declared.shape_pieces.Piece.{Piece}
-use Rattle.model_walk.specs.SurfacePieces.{IsUnmapped, ArePlacedNear}
+use Rattle.model_walk.specs.inner.SurfacePieces.{IsUnmapped, ArePlacedNear}
 use Rattle.model_walk.specs.Sketches.{AreNearSets, rows_with, kept_triangles, piece_triangles, pieces_triangles}
 use Rattle.model_walk.proofs.PiecesAdded.{placed_none}
 use Rattle.walk_rows.specs.declared.triangle_rows.Row.{Row}

@@ -14,9 +14,9 @@ use Rattle.spatial_tree.specs.Trees.{IsTree}
 use Rattle.model_walk.specs.declared.element_sketches.Drawn.{Drawn}
 use Rattle.model_walk.specs.declared.element_sketches.Stock.{Stock}
 use Rattle.model_walk.specs.Checked.{AllClean, Differ}
-use Rattle.model_walk.specs.PooledSets.{AreReadSets}
+use Rattle.model_walk.specs.inner.PooledSets.{AreReadSets}
 use Rattle.model_walk.specs.Sketches.{elements_of, IsCarried}
-use Rattle.model_walk.specs.Stocked.{AreDrawn, IsStocked}
+use Rattle.model_walk.specs.inner.Stocked.{AreDrawn, IsStocked}
 use Rattle.model_walk.specs.Walked.{IsWalked}
 use Rattle.walk_rows.specs.Pools.{pooled}
 use Rattle.model_walk.proofs.GuidsDiffer.{surfaces_differ}

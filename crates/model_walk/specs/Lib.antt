@@ -1,9 +1,6 @@
-pub mod PooledSets
 pub mod SketchLists
 pub mod Sketches
-pub mod SurfacePieces
 pub mod Clean
-pub mod Stocked
 pub mod Walked
 pub mod Checked
-pub mod GuidSlots
+pub mod inner

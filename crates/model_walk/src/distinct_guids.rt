@@ -2,7 +2,7 @@
 ghost use Rattle.std.specs.Prelude.{◌≡◌, ◌<◌, ◌≤◌, length, IfOk};
 ghost use Rattle.std.specs.Bool.{OnTrue};
 ghost use Rattle.model_walk.specs.Checked.{Differ};
-ghost use Rattle.model_walk.specs.GuidSlots.{hash_seen, slot_seen, guids_seen, AreNoted, AreChained, IsNew};
+ghost use Rattle.model_walk.specs.inner.GuidSlots.{hash_seen, slot_seen, guids_seen, AreNoted, AreChained, IsNew};
 
 use bim_model::Element;
 use std::alloc::{AllocError, Global};

@@ -13,7 +13,7 @@ ghost use Rattle.ifc_elements.specs.Items.{body_items};
 ghost use Rattle.ifc_elements.specs.StoreyNames.{AreNames};
 ghost use Rattle.ifc_elements.specs.Surfaces.{IsPlacedBy};
 ghost use Rattle.ifc_elements.specs.ElementTexts.{guid_of};
-ghost use Rattle.model_walk.specs.Stocked.{shape_items, ShowsItems, IsStocked, Grows, IsPlacing, AddsBare, Draws, AreDrawn};
+ghost use Rattle.model_walk.specs.inner.Stocked.{shape_items, ShowsItems, IsStocked, Grows, IsPlacing, AddsBare, Draws, AreDrawn};
 ghost use Rattle.walk_rows.specs.Pools.{pooled};
 
 use crate::class_texts::LastClass;

@@ -8,7 +8,7 @@ ghost use Rattle.ifc_schema.specs.InstanceMarks.{Known, rank_at};
 ghost use Rattle.ifc_units.specs.Lengths.{ArePoints};
 ghost use Rattle.p21_values.specs.Attributes.{listed};
 ghost use Rattle.walk_rows.specs.Pools.{Pools};
-ghost use Rattle.model_walk.specs.PooledSets.{HasPoints, ArePooled, HasLists};
+ghost use Rattle.model_walk.specs.inner.PooledSets.{HasPoints, ArePooled, HasLists};
 
 use bim_model::{Items, Mode, Point};
 use ifc_instances::Entity;

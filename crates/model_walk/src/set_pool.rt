@@ -8,7 +8,7 @@ ghost use Rattle.p21_values.specs.InstancePlaces.{IsPlaceOf};
 ghost use Rattle.faceset.specs.FaceSets.{is_set};
 ghost use Rattle.model_walk.specs.declared.set_pool.SetRows.{SetRows};
 ghost use Rattle.walk_rows.specs.Pools.{Pools};
-ghost use Rattle.model_walk.specs.PooledSets.{ArePooled, IsRead};
+ghost use Rattle.model_walk.specs.inner.PooledSets.{ArePooled, IsRead};
 
 use bim_model::{Items, Point};
 use p21_table::{Exchange, InstanceRef};

@@ -8,9 +8,9 @@ ghost use Rattle.ifc_units.specs.declared.scale.Scale.{Scale};
 ghost use Rattle.faceset.specs.FaceSets.{Joined};
 ghost use Rattle.ifc_elements.specs.Items.{items_of, bodies_among};
 ghost use Rattle.ifc_elements.specs.Sound.{KeptSet, KeptMapped};
-ghost use Rattle.model_walk.specs.PooledSets.{AreReadSets};
-ghost use Rattle.model_walk.specs.SurfacePieces.{AddsShown, Carried, IsOperator};
-ghost use Rattle.model_walk.specs.Stocked.{AddsPieces, shape_items};
+ghost use Rattle.model_walk.specs.inner.PooledSets.{AreReadSets};
+ghost use Rattle.model_walk.specs.inner.SurfacePieces.{AddsShown, Carried, IsOperator};
+ghost use Rattle.model_walk.specs.inner.Stocked.{AddsPieces, shape_items};
 
 use crate::set_pool::SetRows;
 use bim_model::{MOST_TRIANGLES, Mode};

@@ -7,7 +7,7 @@ ghost use Rattle.placement.specs.Frames.{carried};
 ghost use Rattle.ifc_elements.specs.Framed.{Framed};
 ghost use Rattle.ifc_elements.specs.Surfaces.{placed_by, moved};
 ghost use Rattle.walk_rows.specs.Rows.{triangle_at, triangles_at};
-ghost use Rattle.model_walk.specs.SurfacePieces.{IsOperator, IsUnmapped, ArePlacedNear};
+ghost use Rattle.model_walk.specs.inner.SurfacePieces.{IsOperator, IsUnmapped, ArePlacedNear};
 ghost use Rattle.model_walk.specs.Sketches.{piece_triangles, pieces_in, range_triangles, elements_of, IsCarried, IsSoundStock, IsRangeIn, IsNearSketch};
 
 use crate::element_sketches::{Drawn, Stock};

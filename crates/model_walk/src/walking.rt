@@ -8,8 +8,8 @@ ghost use Rattle.ifc_units.specs.Units.{IsLengthUnit};
 ghost use Rattle.placement.specs.Placed.{AllPlaced, frame_in};
 ghost use Rattle.spatial_tree.specs.Trees.{IsTree, ListsStoreys};
 ghost use Rattle.model_walk.specs.Checked.{IsCleanBy, CleanThere, AllClean, Differ, Alternate};
-ghost use Rattle.model_walk.specs.PooledSets.{ArePooled, HasLists, AreReadSets};
-ghost use Rattle.model_walk.specs.Stocked.{IsStocked};
+ghost use Rattle.model_walk.specs.inner.PooledSets.{ArePooled, HasLists, AreReadSets};
+ghost use Rattle.model_walk.specs.inner.Stocked.{IsStocked};
 ghost use Rattle.model_walk.specs.Walked.{IsWalked};
 
 use crate::distinct_guids::differ_by_hash;

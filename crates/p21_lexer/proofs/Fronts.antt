@@ -4,7 +4,7 @@ use Rattle.std.proofs.lemmas.Bool.{eqb-true, leb-true, le-leb, cases_Bool, and_f
 use Rattle.std.proofs.lemmas.Bool.Decides.{nat_tests}
 use Rattle.std.proofs.lemmas.List.{take-append-drop, length-take-le, length-append}
 use Rattle.std.proofs.Math.Seq.{drop-append_seam}
-use Rattle.p21_lexer.specs.TokenSpans.{one, plain_word_span, word_span, is_bang, closed_span, name_run, text_span, or_first}
+use Rattle.p21_lexer.specs.inner.TokenSpans.{one, plain_word_span, word_span, is_bang, closed_span, name_run, text_span, or_first}
 use Rattle.p21_lexer.specs.Spelling.{run, is_digit, is_letter, is_word_byte, AreAll, IsWord, value_after, is_doubled}
 use Rattle.p21_lexer.specs.declared.limits.TheConstants.{GREATEST_NAME}
 

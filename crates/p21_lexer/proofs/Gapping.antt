@@ -3,7 +3,7 @@ use Rattle.std.proofs.Common.{◌≡◌, ℕ, ◌+◌, ◌≤◌, ◌==◌, ◌&
 use Rattle.std.proofs.lemmas.Bool.{eqb-true, cases_Bool, and_parts}
 use Rattle.std.proofs.lemmas.List.{drop-drop}
 use Rattle.p21_lexer.proofs.RunLemmas.{opens_past}
-use Rattle.p21_lexer.specs.TokenSpans.{comment_span, opens as opens_of}
+use Rattle.p21_lexer.specs.inner.TokenSpans.{comment_span, opens as opens_of}
 use Rattle.p21_lexer.specs.Spelling.{run}
 use Rattle.p21_lexer.specs.TokenSeparators.{is_blank, IsBlank, IsComment, IsPiece, Passes, IsStop, has_close}
 

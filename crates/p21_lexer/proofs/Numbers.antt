@@ -5,7 +5,7 @@ use Rattle.std.proofs.lemmas.Bool.Decides.{nat_tests}
 use Rattle.std.proofs.lemmas.List.{length-append, drop-drop}
 use Rattle.std.proofs.Math.Seq.{drop-append_seam}
 use Rattle.p21_lexer.proofs.Fronts.{Begins, Reaches, run_over, run_front}
-use Rattle.p21_lexer.specs.TokenSpans.{one, is_point, signed_span, fraction_span, exponent_span, number_span, or_zero, with_fraction, with_exponent}
+use Rattle.p21_lexer.specs.inner.TokenSpans.{one, is_point, signed_span, fraction_span, exponent_span, number_span, or_zero, with_fraction, with_exponent}
 use Rattle.p21_lexer.specs.Spelling.{run, is_digit, is_sign, is_exponent_mark, AreAll, AreSome, IsOptionalSign, IsSigned, IsFraction, IsExponent, IsNumber}
 
 sign_no_digit : (b : ℕ) → is_digit b ≡ true → is_sign b ≡ false

@@ -6,10 +6,10 @@ use Rattle.p21_lexer.specs.declared.token.Token.{Token}
 use Rattle.p21_lexer.specs.declared.token.LexFault.{LexFault}
 use Rattle.p21_lexer.specs.declared.token.LexFault.TheVariants.{BadToken}
 use Rattle.p21_lexer.specs.Spelling.{Spells}
-use Rattle.p21_lexer.specs.TokenSpans.{comment_span}
+use Rattle.p21_lexer.specs.inner.TokenSpans.{comment_span}
 use Rattle.p21_lexer.specs.TokenSeparators.{has_close, IsBlank, IsComment, IsPiece, Passes, IsStop}
 use Rattle.p21_lexer.specs.Cutting.{IsFirst, StopsAt, CutsFrom, Tokens}
-use Rattle.p21_lexer.specs.Kinds.{kind_of}
+use Rattle.p21_lexer.specs.inner.Kinds.{kind_of}
 use Rattle.p21_lexer.proofs.Gapping.{and_false}
 use Rattle.p21_lexer.proofs.Tokens.{headed}
 

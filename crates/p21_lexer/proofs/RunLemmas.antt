@@ -2,7 +2,7 @@
 use Rattle.std.proofs.Common.{◌≡◌, ℕ, ◌+◌, ◌-◌, ◌*◌, ◌<◌, ◌≤◌, ◌==◌, ◌&&◌, ◌⊎◌, inl, inr, List, [], ◌∷◌, length, get_or, drop, Bool, true, false, nat_le, suc, refl, sym, ap, add-one, arith, drop-cons, Option, Some, None, option_map}
 use Rattle.std.proofs.lemmas.Bool.{ne_eqb, le-leb, lt-leb}
 use Rattle.std.proofs.lemmas.List.{drop-drop, drop_all}
-use Rattle.p21_lexer.specs.TokenSpans.{one, comment_span, name_run, text_span, later, or_first, opens as opens_of}
+use Rattle.p21_lexer.specs.inner.TokenSpans.{one, comment_span, name_run, text_span, later, or_first, opens as opens_of}
 use Rattle.p21_lexer.specs.Spelling.{run, is_digit}
 use Rattle.p21_lexer.specs.declared.limits.TheConstants.{GREATEST_NAME}
 

@@ -7,8 +7,8 @@ use Rattle.p21_lexer.specs.declared.token.TokenKind.{TokenKind}
 use Rattle.p21_lexer.specs.declared.token.TokenKind.TheVariants as kinds
 use Rattle.p21_lexer.specs.declared.limits.TheConstants.{GREATEST_NAME}
 use Rattle.p21_lexer.specs.TokenSeparators.{is_blank, IsStop}
-use Rattle.p21_lexer.specs.Kinds.{kind_of, span}
-use Rattle.p21_lexer.specs.TokenSpans.{name_run, name_span}
+use Rattle.p21_lexer.specs.inner.Kinds.{kind_of, span}
+use Rattle.p21_lexer.specs.inner.TokenSpans.{name_run, name_span}
 use Rattle.p21_lexer.specs.Spelling.{is_digit, value_after}
 use Rattle.p21_lexer.specs.There.{StandsThere}
 use Rattle.p21_lexer.proofs.RunLemmas.{behind_at}

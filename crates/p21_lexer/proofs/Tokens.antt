@@ -6,10 +6,10 @@ use Rattle.std.proofs.lemmas.List.{take-append-drop, length-take-le, length-appe
 use Rattle.std.proofs.Math.Seq.{take-append_seam}
 use Rattle.p21_lexer.specs.declared.token.TokenKind.{TokenKind}
 use Rattle.p21_lexer.specs.declared.token.TokenKind.TheVariants as kinds
-use Rattle.p21_lexer.specs.Kinds.{kind_of, span}
+use Rattle.p21_lexer.specs.inner.Kinds.{kind_of, span}
 use Rattle.p21_lexer.specs.Spelling.{Spells, IsWord, IsName, IsNumber, IsText, IsEnumeration, IsBits, is_single, is_digit, is_sign, is_letter, is_letter_or_digit, is_hexadecimal, IsOptionalSign, AreSome, AreAll, value_after, run}
 use Rattle.p21_lexer.specs.declared.limits.TheConstants.{GREATEST_NAME}
-use Rattle.p21_lexer.specs.TokenSpans.{name_span, text_span, enumeration_span, bits_span, name_run, one}
+use Rattle.p21_lexer.specs.inner.TokenSpans.{name_span, text_span, enumeration_span, bits_span, name_run, one}
 use Rattle.p21_lexer.specs.Cutting.{IsFirst, HasNone}
 use Rattle.p21_lexer.proofs.Gapping.{found_at, none_at}
 use Rattle.p21_lexer.proofs.Fronts.{Begins, Reaches, word_most, word_is, closed_most, closed_is, name_over, name_front, text_most, text_is, plus_one, run_over}

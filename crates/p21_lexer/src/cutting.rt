@@ -1,7 +1,7 @@
 //! One token cut off the front, or the place where there is none.
 ghost use Rattle.std.specs.Prelude.{◌≡◌, ◌+◌, ◌<◌, ◌≤◌, length, drop, option_map, IfSome, IfOk};
 ghost use Rattle.p21_lexer.specs.Cutting.{CutsFrom};
-ghost use Rattle.p21_lexer.specs.Kinds.{kind_of, span};
+ghost use Rattle.p21_lexer.specs.inner.Kinds.{kind_of, span};
 
 use crate::gaps::skip;
 use crate::spelling::{bits_end, enumeration_end, name_end, number_end, text_end, word_end};
@@ -24,7 +24,7 @@ fn kind_at(byte: u8) -> Option<TokenKind>
 }
 
 /// The end of the longest token of a kind, one of whose first bytes stands at `at`.
-#[tactic(auto, unfolding(crate::specs::Kinds::span))]
+#[tactic(auto, unfolding(crate::specs::inner::Kinds::span))]
 #[inline(always)]
 pub(crate) fn end_of(kind: TokenKind, bytes: &[u8], at: usize) -> Option<usize>
     requires { at < length bytes.now }

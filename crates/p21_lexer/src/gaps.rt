@@ -1,7 +1,7 @@
 //! Gaps between tokens: blanks and comments.
 ghost use Rattle.std.specs.Prelude.{◌≡◌, ◌+◌, ◌≤◌, length, drop, option_map, IfSome};
 ghost use Rattle.p21_lexer.specs.TokenSeparators.{is_blank, Skips};
-ghost use Rattle.p21_lexer.specs.TokenSpans.{comment_span, opens};
+ghost use Rattle.p21_lexer.specs.inner.TokenSpans.{comment_span, opens};
 ghost use Rattle.p21_lexer.specs.Spelling.{run};
 
 use crate::class::is_blank;

@@ -1,6 +1,6 @@
 //! Runs of bytes of one class.
 ghost use Rattle.std.specs.Prelude.{◌≡◌, ◌+◌, ◌≤◌, ◌==◌, length, drop};
-ghost use Rattle.p21_lexer.specs.TokenSpans.{one};
+ghost use Rattle.p21_lexer.specs.inner.TokenSpans.{one};
 ghost use Rattle.p21_lexer.specs.Spelling.{run, is_digit, is_letter_or_digit, is_hexadecimal, is_word_byte};
 
 use crate::class::{is_digit, is_enumeration_byte, is_hexadecimal, is_word_byte};

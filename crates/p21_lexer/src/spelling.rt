@@ -1,6 +1,6 @@
 //! Where words, names, numbers, texts, enumerations and bits end.
 ghost use Rattle.std.specs.Prelude.{◌≡◌, ◌+◌, ◌<◌, ◌≤◌, length, drop, slice_index, option_map, IfSome};
-ghost use Rattle.p21_lexer.specs.TokenSpans.{word_span, enumeration_span, bits_span, fraction_span, exponent_span, signed_span, number_span, name_span, name_run, text_span};
+ghost use Rattle.p21_lexer.specs.inner.TokenSpans.{word_span, enumeration_span, bits_span, fraction_span, exponent_span, signed_span, number_span, name_span, name_run, text_span};
 
 use crate::class::{is_digit, is_letter, is_sign};
 use crate::limits::GREATEST_NAME;
@@ -9,7 +9,7 @@ use crate::runs::{
 };
 
 /// The end of a word that begins at `from`.
-#[tactic(auto, using(crate::proofs::RunLemmas::heads), unfolding(crate::specs::TokenSpans::word_span))]
+#[tactic(auto, using(crate::proofs::RunLemmas::heads), unfolding(crate::specs::inner::TokenSpans::word_span))]
 pub fn word_end(bytes: &[u8], from: usize) -> Option<usize>
     requires { from ≤ length bytes.now }
     ensures span { result ≡ option_map (λ n. from + n) (word_span (drop from bytes.now)) }
@@ -55,7 +55,7 @@ pub fn name_end(bytes: &[u8], from: usize) -> Option<usize>
 }
 
 /// The end of an optional sign and the digits after it.
-#[tactic(auto, using(crate::proofs::RunLemmas::heads), unfolding(crate::specs::TokenSpans::signed_span))]
+#[tactic(auto, using(crate::proofs::RunLemmas::heads), unfolding(crate::specs::inner::TokenSpans::signed_span))]
 fn signed_end(bytes: &[u8], from: usize) -> Option<usize>
     requires { from ≤ length bytes.now }
     ensures span { result ≡ option_map (λ n. from + n) (signed_span (drop from bytes.now)) }
@@ -71,7 +71,7 @@ fn signed_end(bytes: &[u8], from: usize) -> Option<usize>
 }
 
 /// The end of a point and its digits, or `from` where no point stands.
-#[tactic(auto, using(crate::proofs::RunLemmas::heads), unfolding(crate::specs::TokenSpans::fraction_span))]
+#[tactic(auto, using(crate::proofs::RunLemmas::heads), unfolding(crate::specs::inner::TokenSpans::fraction_span))]
 fn fraction_end(bytes: &[u8], from: usize) -> usize
     requires { from ≤ length bytes.now }
     ensures span { result ≡ from + fraction_span (drop from bytes.now) }
@@ -85,7 +85,7 @@ fn fraction_end(bytes: &[u8], from: usize) -> usize
 }
 
 /// The end of an exponent, or `from` where no whole one stands.
-#[tactic(auto, using(crate::proofs::RunLemmas::heads), unfolding(crate::specs::TokenSpans::exponent_span))]
+#[tactic(auto, using(crate::proofs::RunLemmas::heads), unfolding(crate::specs::inner::TokenSpans::exponent_span))]
 fn exponent_end(bytes: &[u8], from: usize) -> usize
     requires { from ≤ length bytes.now }
     ensures span { result ≡ from + exponent_span (drop from bytes.now) }
@@ -101,7 +101,7 @@ fn exponent_end(bytes: &[u8], from: usize) -> usize
 }
 
 /// The end of a number that begins at `from`.
-#[tactic(auto, using(crate::proofs::RunLemmas::heads), unfolding(crate::specs::TokenSpans::number_span))]
+#[tactic(auto, using(crate::proofs::RunLemmas::heads), unfolding(crate::specs::inner::TokenSpans::number_span))]
 pub fn number_end(bytes: &[u8], from: usize) -> Option<usize>
     requires { from ≤ length bytes.now }
     ensures span { result ≡ option_map (λ n. from + n) (number_span (drop from bytes.now)) }
@@ -168,7 +168,7 @@ pub fn text_end(bytes: &[u8], from: usize) -> Option<usize>
 }
 
 /// The end of an enumeration, from behind its first point.
-#[tactic(auto, using(crate::proofs::RunLemmas::heads), unfolding(crate::specs::TokenSpans::enumeration_span))]
+#[tactic(auto, using(crate::proofs::RunLemmas::heads), unfolding(crate::specs::inner::TokenSpans::enumeration_span))]
 pub fn enumeration_end(bytes: &[u8], from: usize) -> Option<usize>
     requires { from ≤ length bytes.now }
     ensures span { result ≡ option_map (λ n. from + n) (enumeration_span (drop from bytes.now)) }
@@ -184,7 +184,7 @@ pub fn enumeration_end(bytes: &[u8], from: usize) -> Option<usize>
 }
 
 /// The end of a binary, from behind its first quotation mark.
-#[tactic(auto, using(crate::proofs::RunLemmas::heads), unfolding(crate::specs::TokenSpans::bits_span))]
+#[tactic(auto, using(crate::proofs::RunLemmas::heads), unfolding(crate::specs::inner::TokenSpans::bits_span))]
 pub fn bits_end(bytes: &[u8], from: usize) -> Option<usize>
     requires { from ≤ length bytes.now }
     ensures span { result ≡ option_map (λ n. from + n) (bits_span (drop from bytes.now)) }

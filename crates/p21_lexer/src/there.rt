@@ -1,6 +1,6 @@
 //! Tokens that stand right at a place, without a gap before them, for those who pass over many of them. What is told is what `cut` would tell.
 ghost use Rattle.std.specs.Prelude.{◌≡◌, ◌<◌, Some, IfSome, length, slice_index};
-ghost use Rattle.p21_lexer.specs.Kinds.{kind_of};
+ghost use Rattle.p21_lexer.specs.inner.Kinds.{kind_of};
 ghost use Rattle.p21_lexer.specs.There.{StandsThere, IsValueThere, IsNameThere};
 
 use crate::class::{is_digit, is_letter};

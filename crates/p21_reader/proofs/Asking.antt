@@ -14,10 +14,10 @@ use Rattle.p21_values.specs.declared.piece.Piece.{Piece}
 use Rattle.p21_values.specs.Grammar.{Inside, T, Word, Iso, Semi}
 use Rattle.p21_reader.specs.Machine.{run}
 use Rattle.p21_values.specs.Lexemes.{Lexeme, Opening, Closing, Ending, WordsOf, KeywordOf, says, single_says, lexeme_of, class_of, classes, Cuts}
-use Rattle.p21_reader.specs.TokenReading.{Goes, sign_says}
+use Rattle.p21_reader.specs.inner.TokenReading.{Goes, sign_says}
 use Rattle.p21_values.specs.TokenPieces.{IsPiece, IsSign, kind_of}
 use Rattle.p21_reader.specs.Schema.{Statement, IsIfc4}
-use Rattle.p21_reader.specs.Heading.{OnlyText, OnlyIfc4}
+use Rattle.p21_reader.specs.inner.Heading.{OnlyText, OnlyIfc4}
 use Rattle.p21_reader.specs.Uploads.{BeginsPart21, BeginsAt}
 use Rattle.p21_reader.proofs.Steps.{cuts_append}
 use Rattle.p21_values.proofs.Tokens.{one_token}

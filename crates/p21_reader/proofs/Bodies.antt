@@ -10,7 +10,7 @@ use Rattle.p21_values.specs.declared.value.Instance.{Instance}
 use Rattle.p21_values.specs.Grammar.{Class, Open, Semi, Equals, Word, Sign, T, AnyWord, Body, Ones, Inside, Derives}
 use Rattle.p21_reader.specs.Machine.{run, next}
 use Rattle.p21_values.specs.Lexemes.{Lexeme, lexeme_of, class_of, Opening, Closing, Ending, Assigning, ReferenceTo}
-use Rattle.p21_reader.specs.TokenReading.{Goes, Fails, classes}
+use Rattle.p21_reader.specs.inner.TokenReading.{Goes, Fails, classes}
 use Rattle.p21_values.specs.TokenPieces.{kind_of}
 use Rattle.p21_reader.specs.Instances.{Passes, SpellsBody, SpellsInstance}
 use Rattle.p21_reader.proofs.Viable.{sound}

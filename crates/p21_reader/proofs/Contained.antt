@@ -12,7 +12,7 @@ use Rattle.p21_values.specs.Lexemes.{Lexeme, Absence, Derivation, Opening, Closi
 use Rattle.p21_values.specs.Printing.{print, print_step, print_all, joined, behind}
 use Rattle.p21_values.specs.Counting.{size, size_step}
 use Rattle.p21_values.specs.TokenPieces.{kind_of}
-use Rattle.p21_reader.specs.ValueNesting.{tells}
+use Rattle.p21_reader.specs.inner.ValueNesting.{tells}
 
 -- a value of its parts is spelled by theirs
 printed : (x : Value21-F Value21) → print (roll-Value21 x) ≡ print_step (map-Value21 _ _ print x)

@@ -23,12 +23,12 @@ use Rattle.p21_reader.specs.Machine.{next}
 use Rattle.p21_values.specs.Lexemes.{Lexeme, lexeme_of, class_of, says, Opening, Closing, Ending, Assigning, KeywordOf, ReferenceTo}
 use Rattle.p21_values.specs.Printing.{print_all}
 use Rattle.p21_values.specs.Counting.{size, values_of}
-use Rattle.p21_reader.specs.TokenReading.{Goes, Fails}
+use Rattle.p21_reader.specs.inner.TokenReading.{Goes, Fails}
 use Rattle.p21_values.specs.TokenPieces.{kind_of}
 use Rattle.p21_reader.specs.Instances.{Passes, SpellsBody}
 use Rattle.p21_reader.specs.ExchangeFiles.{ReadsClosing}
 use Rattle.p21_values.specs.Standing.{StandAt}
-use Rattle.p21_reader.specs.Tabling.{Counts, PutsStarts, PutsBody, PutsInstance, TablesSection}
+use Rattle.p21_reader.specs.inner.Tabling.{Counts, PutsStarts, PutsBody, PutsInstance, TablesSection}
 use Rattle.p21_values.specs.Tables.{NamesKeyword, Tells, Holds}
 use Rattle.p21_reader.proofs.Steps.{fails_past, fails_under, cuts_on}
 use Rattle.p21_reader.proofs.Lists.{said}

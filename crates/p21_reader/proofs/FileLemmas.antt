@@ -10,9 +10,9 @@ use Rattle.p21_values.specs.declared.value.Instance.{Instance}
 use Rattle.p21_values.specs.Grammar.{Class, Name, Semi, Equals, Word, EndSec, EndIso, Sign, T, Body, Statements, Iso, Header, Instances, IsViable, file}
 use Rattle.p21_reader.specs.Machine.{run, next, bind}
 use Rattle.p21_values.specs.Lexemes.{Lexeme, lexeme_of, class_of, Ending}
-use Rattle.p21_reader.specs.TokenReading.{Cuts, classes, Goes, Fails, Expects}
+use Rattle.p21_reader.specs.inner.TokenReading.{Cuts, classes, Goes, Fails, Expects}
 use Rattle.p21_values.specs.TokenPieces.{kind_of}
-use Rattle.p21_reader.specs.Heading.{ReadsHeader}
+use Rattle.p21_reader.specs.inner.Heading.{ReadsHeader}
 use Rattle.p21_reader.specs.declared.header.Head.{Head}
 use Rattle.p21_reader.specs.Uploads.{BeginsAt, Judges}
 use Rattle.p21_reader.specs.Instances.{SpellsInstance, SpellsAll}

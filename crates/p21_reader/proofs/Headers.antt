@@ -6,8 +6,8 @@ use Rattle.p21_values.specs.declared.fault.ReadFault.{ReadFault}
 use Rattle.p21_reader.specs.declared.nested.Want.{Want}
 use Rattle.p21_values.specs.Grammar.{Sign, Inside}
 use Rattle.p21_values.specs.Lexemes.{Lexeme, lexeme_of, class_of}
-use Rattle.p21_reader.specs.TokenReading.{Goes, Fails}
-use Rattle.p21_reader.specs.Heading.{sign_of, signs_of, Follows, FollowsNot}
+use Rattle.p21_reader.specs.inner.TokenReading.{Goes, Fails}
+use Rattle.p21_reader.specs.inner.Heading.{sign_of, signs_of, Follows, FollowsNot}
 use Rattle.p21_reader.proofs.Steps.{goes_one, goes_trans, goes_under, fails_after, fails_refused}
 
 append_nil : {A : Type 0} (xs : List A) → xs ++ [] ≡ xs

@@ -11,7 +11,7 @@ use Rattle.p21_reader.specs.Machine.{next}
 use Rattle.p21_reader.specs.Instances.{Passes}
 use Rattle.p21_values.specs.Lexemes.{Lexeme, Opening, lexeme_of, class_of, Closing, Separator}
 use Rattle.p21_values.specs.Printing.{print, print_all, behind}
-use Rattle.p21_reader.specs.TokenReading.{Goes, Fails, ReadsValue}
+use Rattle.p21_reader.specs.inner.TokenReading.{Goes, Fails, ReadsValue}
 use Rattle.p21_values.specs.TokenPieces.{kind_of}
 use Rattle.p21_values.specs.Standing.{Stands}
 use Rattle.p21_reader.proofs.Steps.{goes_here, goes_trans, fails_after}

@@ -12,9 +12,9 @@ use Rattle.p21_values.specs.declared.fault.ReadFault.TheVariants as faults
 use Rattle.p21_reader.specs.declared.passing.Top.{Top}
 use Rattle.p21_reader.specs.declared.passing.Top.TheVariants as tops
 use Rattle.p21_values.specs.Lexemes.{lexeme_of, class_of}
-use Rattle.p21_reader.specs.TokenReading.{Goes, Fails}
+use Rattle.p21_reader.specs.inner.TokenReading.{Goes, Fails}
 use Rattle.p21_values.specs.TokenPieces.{NoToken}
-use Rattle.p21_reader.specs.ValueNesting.{wanted, signs}
+use Rattle.p21_reader.specs.inner.ValueNesting.{wanted, signs}
 use Rattle.p21_reader.proofs.Steps.{goes_one, goes_under, fails_none, fails_refused}
 
 -- levels that are open don't hang on what is kept above them

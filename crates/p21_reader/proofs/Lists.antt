@@ -11,7 +11,7 @@ use Rattle.p21_values.specs.Grammar.{Class, Close, Value, Inside, After}
 use Rattle.p21_reader.specs.Machine.{next, next_value}
 use Rattle.p21_values.specs.Lexemes.{Lexeme, lexeme_of, class_of, Closing, Separator}
 use Rattle.p21_values.specs.Printing.{print, behind}
-use Rattle.p21_reader.specs.TokenReading.{Goes, Fails, StopsAfter, FailsAfter, ReadsValue, sign_says}
+use Rattle.p21_reader.specs.inner.TokenReading.{Goes, Fails, StopsAfter, FailsAfter, ReadsValue, sign_says}
 use Rattle.p21_values.specs.TokenPieces.{kind_of, IsSign}
 use Rattle.p21_reader.proofs.Signs.{sign_said}
 use Rattle.p21_reader.proofs.Steps.{goes_one, goes_trans, goes_under, stops_under, fails_after, fails_under, after_fails}

@@ -7,7 +7,7 @@ use Rattle.p21_reader.specs.declared.word.Seen.TheVariants as seen
 use Rattle.p21_values.specs.Grammar as grammar
 use Rattle.p21_values.specs.Grammar.{Class, Word, Iso, Header, Data, EndSec, EndIso, Other, T}
 use Rattle.p21_reader.specs.Machine.{next}
-use Rattle.p21_reader.specs.Heading.{mark_seen, class_seen}
+use Rattle.p21_reader.specs.inner.Heading.{mark_seen, class_seen}
 
 -- A word that is wanted.
 

@@ -11,10 +11,10 @@ use Rattle.p21_reader.specs.declared.passing.Top.TheVariants as tops
 use Rattle.p21_values.specs.Grammar.{Sign, Value}
 use Rattle.p21_reader.specs.Machine.{next, step, run}
 use Rattle.p21_values.specs.Lexemes.{Lexeme, lexeme_of, class_of, classes}
-use Rattle.p21_reader.specs.TokenReading.{Goes, FailsAfter}
+use Rattle.p21_reader.specs.inner.TokenReading.{Goes, FailsAfter}
 use Rattle.p21_values.specs.TokenPieces.{NoToken, kind_of}
-use Rattle.p21_reader.specs.ValueNesting.{signs, tells}
-use Rattle.p21_reader.specs.Tabling.{Counts, PassesValue}
+use Rattle.p21_reader.specs.inner.ValueNesting.{signs, tells}
+use Rattle.p21_reader.specs.inner.Tabling.{Counts, PassesValue}
 use Rattle.p21_reader.proofs.Viable.{sound}
 use Rattle.p21_reader.proofs.Steps.{goes_here, goes_trans, fails_after, fails_past}
 use Rattle.p21_reader.proofs.Levels.{step_goes, plain_step, fails_here, fails_token, some_sign}

@@ -15,7 +15,7 @@ use Rattle.p21_reader.specs.Machine.{run, bind}
 use Rattle.p21_values.specs.Lexemes.{Lexeme, lexeme_of, class_of, Cuts, classes}
 use Rattle.p21_reader.specs.Schema.{Statement, NamesIfc4}
 use Rattle.p21_values.specs.Counting.{size, values_of, times}
-use Rattle.p21_values.specs.Saying.{content, contents, saying}
+use Rattle.p21_values.specs.inner.Saying.{content, contents, saying}
 use Rattle.p21_reader.specs.ExchangeFiles.{HoldsFile, Reaches, NoneThere, WrongThere}
 use Rattle.p21_reader.specs.Uploads.{BeginsPart21, IsUpload, IsIfc4Upload, IsLeastDouble, SpellsExchange, HasFault}
 use Rattle.p21_reader.proofs.Viable.{run_append, file_iff}

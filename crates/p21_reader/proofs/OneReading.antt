@@ -12,7 +12,7 @@ use Rattle.p21_reader.specs.Instances.{SpellsBody, SpellsInstance, SpellsAll}
 use Rattle.p21_reader.specs.ExchangeFiles.{HoldsFile}
 use Rattle.p21_reader.specs.Schema.{Statement, SpellsStatement, SpellsStatements, SpellsHeading}
 use Rattle.p21_reader.proofs.Steps.{classes_append}
-use Rattle.p21_values.specs.Saying.{content, contents, saying}
+use Rattle.p21_values.specs.inner.Saying.{content, contents, saying}
 use Rattle.p21_reader.proofs.Viable.{bind_is, complete, file_iff}
 use Rattle.p21_values.proofs.Tokens.{one_token}
 use Rattle.p21_values.proofs.SameSaying.{same_instances}

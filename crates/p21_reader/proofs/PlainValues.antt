@@ -10,9 +10,9 @@ use Rattle.p21_values.specs.Lexemes.{Lexeme, class_of, lexeme_of, says, single_s
 use Rattle.p21_values.specs.TokenPieces.{kind_of}
 use Rattle.p21_values.proofs.Seen.{alone_says}
 use Rattle.p21_reader.specs.declared.table.Table.{Table}
-use Rattle.p21_reader.specs.ValueNesting.{tells}
-use Rattle.p21_reader.specs.Tabling.{Counts, PassesValue, PutsFirst, PutsBehind, PutsMore}
-use Rattle.p21_lexer.specs.Kinds.{kind_of as kind_by, span}
+use Rattle.p21_reader.specs.inner.ValueNesting.{tells}
+use Rattle.p21_reader.specs.inner.Tabling.{Counts, PassesValue, PutsFirst, PutsBehind, PutsMore}
+use Rattle.p21_lexer.specs.inner.Kinds.{kind_of as kind_by, span}
 use Rattle.p21_lexer.specs.There.{IsOneValue, IsValueThere}
 use Rattle.p21_lexer.proofs.Stands.{stands}
 use Rattle.p21_reader.proofs.Midway.{plain_value}

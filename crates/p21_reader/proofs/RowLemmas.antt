@@ -14,9 +14,9 @@ use Rattle.p21_reader.specs.declared.passing.Reached.{Reached}
 use Rattle.p21_reader.specs.declared.passing.Top.{Top}
 use Rattle.p21_reader.specs.declared.passing.Top.TheVariants as tops
 use Rattle.p21_reader.specs.Machine.{run}
-use Rattle.p21_reader.specs.ValueNesting.{wanted, signs, IsFit, row_rest, EndsRow, HasRow, HasRows}
-use Rattle.p21_reader.specs.TokenReading.{Goes, classes}
-use Rattle.p21_reader.specs.Tabling.{Counts, PassesRow, PassesRows, PassesMore}
+use Rattle.p21_reader.specs.inner.ValueNesting.{wanted, signs, IsFit, row_rest, EndsRow, HasRow, HasRows}
+use Rattle.p21_reader.specs.inner.TokenReading.{Goes, classes}
+use Rattle.p21_reader.specs.inner.Tabling.{Counts, PassesRow, PassesRows, PassesMore}
 use Rattle.p21_lexer.specs.There.{StandsThere}
 use Rattle.p21_reader.proofs.Contained.{told, told_append}
 use Rattle.p21_reader.proofs.Levels.{one_less}

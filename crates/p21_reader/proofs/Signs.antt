@@ -6,7 +6,7 @@ use Rattle.p21_values.specs.Grammar.{Class, Open, Close, Comma, Semi, Equals, T}
 use Rattle.p21_reader.specs.Machine.{next}
 use Rattle.p21_values.specs.Lexemes.{Lexeme, Opening, Closing, Separator, Ending, Assigning, class_of}
 use Rattle.p21_values.specs.TokenPieces.{kind_of, IsSign}
-use Rattle.p21_reader.specs.TokenReading.{sign_class, sign_says}
+use Rattle.p21_reader.specs.inner.TokenReading.{sign_class, sign_says}
 
 pub sign_said : (w : Kind) (l : Lexeme) → IsSign w → kind_of (class_of l) ≡ w → l ≡ sign_says w
 sign_said kinds.Simple l s h = absurd s

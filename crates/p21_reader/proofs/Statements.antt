@@ -14,12 +14,12 @@ use Rattle.p21_reader.specs.declared.schema.Schema.TheVariants as said
 use Rattle.p21_values.specs.Grammar.{Class, Mark, Word, Iso, Header, Data, EndSec, EndIso, Other, Open, Semi, Sign, T, Statements, AfterEnd, Inside, Derives}
 use Rattle.p21_reader.specs.Machine.{run, next}
 use Rattle.p21_values.specs.Lexemes.{Lexeme, Opening, Closing, Ending, WordsOf, KeywordOf, lexeme_of, class_of, classes, Cuts}
-use Rattle.p21_reader.specs.TokenReading.{Goes, Fails, Expects}
+use Rattle.p21_reader.specs.inner.TokenReading.{Goes, Fails, Expects}
 use Rattle.p21_values.specs.TokenPieces.{NoToken, IsPiece, kind_of}
 use Rattle.p21_reader.specs.Instances.{Passes}
 use Rattle.p21_reader.specs.ExchangeFiles.{ReadsWord}
 use Rattle.p21_reader.specs.Schema.{Statement, SpellsStatement, SpellsStatements, schemas, NamesIfc4}
-use Rattle.p21_reader.specs.Heading.{OnlyText, OnlyIfc4, IsStatementAt, SaysSchema, ReadsData, ReadsPart, ReadsStatements, ReadsHeader}
+use Rattle.p21_reader.specs.inner.Heading.{OnlyText, OnlyIfc4, IsStatementAt, SaysSchema, ReadsData, ReadsPart, ReadsStatements, ReadsHeader}
 use Rattle.p21_values.specs.declared.fault.ReadFault.TheVariants as faults
 use Rattle.p21_reader.specs.declared.header.Part.TheVariants as parts
 use Rattle.p21_reader.specs.declared.header.Head.{Head}

@@ -11,7 +11,7 @@ use Rattle.std.specs.Prelude.{IsErrAnd}
 use Rattle.p21_reader.proofs.Signs.{sign_said, sign_led}
 use Rattle.p21_reader.specs.Machine.{run, next, bind}
 use Rattle.p21_values.specs.Lexemes.{Lexeme, lexeme_of, class_of}
-use Rattle.p21_reader.specs.TokenReading.{Cuts, classes, Goes, Stops, Fails, StopsAfter, FailsAfter, sign_class, sign_says}
+use Rattle.p21_reader.specs.inner.TokenReading.{Cuts, classes, Goes, Stops, Fails, StopsAfter, FailsAfter, sign_class, sign_says}
 use Rattle.p21_values.specs.TokenPieces.{NoToken, IsSign, kind_of}
 use Rattle.p21_reader.proofs.Viable.{run_append}
 

@@ -6,7 +6,7 @@ use Rattle.std.specs.List.{AllByRecursion}
 use Rattle.std.specs.List.Sorted.{IsStrictlySortedBy}
 use Rattle.std.specs.declared.cmp.Ordering.TheVariants.{Less}
 use Rattle.p21_values.specs.declared.value.Instance.{Instance}
-use Rattle.p21_values.specs.Saying.{saying}
+use Rattle.p21_values.specs.inner.Saying.{saying}
 use Rattle.p21_values.specs.Counting.{times}
 use Rattle.p21_values.specs.InstancePlaces.{Rises}
 use Rattle.p21_reader.proofs.Doubles.{less_is, times_same, times_other, equal_or}

@@ -12,13 +12,13 @@ use Rattle.p21_reader.specs.declared.table.Table.{Table}
 use Rattle.p21_values.specs.Lexemes.{Lexeme, lexeme_of, class_of, Separator, Closing, Cuts}
 use Rattle.p21_values.specs.Printing.{print_all}
 use Rattle.p21_values.specs.Counting.{size}
-use Rattle.p21_reader.specs.TokenReading.{Fails}
+use Rattle.p21_reader.specs.inner.TokenReading.{Fails}
 use Rattle.p21_values.specs.TokenPieces.{kind_of}
 use Rattle.p21_values.specs.Grammar.{Class, Close, Sign, Value, After, Inside}
 use Rattle.p21_reader.specs.Machine.{next}
 use Rattle.p21_values.specs.Standing.{Stands, StandInside}
 use Rattle.p21_values.proofs.Tokens.{one_token}
-use Rattle.p21_reader.specs.Tabling.{Counts, PutsStart, PutsFirst, PutsMany, PutsMore, PutsStarts}
+use Rattle.p21_reader.specs.inner.Tabling.{Counts, PutsStart, PutsFirst, PutsMany, PutsMore, PutsStarts}
 use Rattle.p21_reader.proofs.Steps.{goes_one}
 use Rattle.p21_reader.proofs.Inwards.{Inwards, inwards_first, inwards_more, inwards_close, inwards_fails, stands_there}
 

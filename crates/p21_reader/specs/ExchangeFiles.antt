@@ -7,7 +7,7 @@ use Rattle.p21_values.specs.declared.fault.ReadFault.TheVariants as faults
 use Rattle.p21_values.specs.declared.value.Instance.{Instance}
 use Rattle.p21_values.specs.Grammar.{Mark, T, Word, EndSec, EndIso, Semi, Instances, IsFile, IsViable}
 use Rattle.p21_values.specs.Lexemes.{Lexeme, lexeme_of, class_of}
-use Rattle.p21_reader.specs.TokenReading.{Cuts, classes, Goes, Fails, FailsAfter}
+use Rattle.p21_reader.specs.inner.TokenReading.{Cuts, classes, Goes, Fails, FailsAfter}
 use Rattle.p21_reader.specs.Instances.{SpellsAll}
 use Rattle.p21_reader.specs.Schema.{Statement, SpellsHeading}
 

@@ -5,7 +5,7 @@ use Rattle.p21_values.specs.declared.value.Instance.{Instance}
 use Rattle.p21_values.specs.Grammar.{Sign, Body, Derives}
 use Rattle.p21_values.specs.Lexemes.{Lexeme, Opening, Closing, Ending, Assigning, KeywordOf, ReferenceTo}
 use Rattle.p21_values.specs.Printing.{print_all}
-use Rattle.p21_reader.specs.TokenReading.{Goes, Fails, classes}
+use Rattle.p21_reader.specs.inner.TokenReading.{Goes, Fails, classes}
 
 -- What stands between the equals sign of an instance and its semicolon. A complex instance is passed over: several keywords with their
 -- values in parentheses, of which nothing is kept.

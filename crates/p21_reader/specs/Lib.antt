@@ -1,9 +1,6 @@
 pub mod ExchangeFiles
-pub mod Heading
 pub mod Instances
 pub mod Machine
-pub mod ValueNesting
-pub mod TokenReading
 pub mod Schema
-pub mod Tabling
 pub mod Uploads
+pub mod inner

@@ -10,14 +10,14 @@ use Rattle.bim_model.specs.declared.limits.TheConstants.{MOST_UPLOAD}
 use Rattle.p21_values.specs.declared.value.Instance.{Instance}
 use Rattle.p21_values.specs.Grammar.{Iso, Semi, Word, T}
 use Rattle.p21_values.specs.Lexemes.{Lexeme, Cuts, classes}
-use Rattle.p21_reader.specs.TokenReading.{Goes}
+use Rattle.p21_reader.specs.inner.TokenReading.{Goes}
 use Rattle.p21_reader.specs.Schema.{Statement, NamesIfc4}
 use Rattle.p21_values.specs.Counting.{values_of, times}
 use Rattle.p21_values.specs.InstancePlaces.{Rises}
 use Rattle.p21_values.specs.Tables.{Holds}
 use Rattle.p21_reader.specs.ExchangeFiles.{HoldsFile, NoneThere, WrongThere}
 use Rattle.p21_reader.specs.declared.table.Table.{Table}
-use Rattle.p21_reader.specs.Tabling.{Counts}
+use Rattle.p21_reader.specs.inner.Tabling.{Counts}
 
 -- What an upload's bytes spell, and the first fault that they have.
 

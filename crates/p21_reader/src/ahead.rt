@@ -4,8 +4,8 @@ ghost use Rattle.p21_lexer.specs.Cutting.{CutsFrom};
 ghost use Rattle.p21_lexer.specs.declared.token.Token.{Token};
 ghost use Rattle.p21_values.specs.Grammar.{Word};
 ghost use Rattle.p21_values.specs.Lexemes.{lexeme_of, class_of, Opening, Closing, WordsOf};
-ghost use Rattle.p21_reader.specs.Heading.{mark_seen, OnlyText};
-ghost use Rattle.p21_reader.specs.TokenReading.{Cuts, sign_says};
+ghost use Rattle.p21_reader.specs.inner.Heading.{mark_seen, OnlyText};
+ghost use Rattle.p21_reader.specs.inner.TokenReading.{Cuts, sign_says};
 ghost use Rattle.p21_values.specs.TokenPieces.{IsPiece, IsSign};
 
 use crate::word::{Mark, Seen, look};

@@ -1,6 +1,6 @@
 //! The header section, and the schema that it names.
 ghost use Rattle.std.specs.Prelude.{◌≡◌, ◌≤◌, length, IfOk};
-ghost use Rattle.p21_reader.specs.Heading.{ReadsData, ReadsPart, ReadsStatements, ReadsHeader};
+ghost use Rattle.p21_reader.specs.inner.Heading.{ReadsData, ReadsPart, ReadsStatements, ReadsHeader};
 ghost use Rattle.p21_values.specs.TokenPieces.{IsPiece};
 
 use crate::nested::pass_values;

@@ -6,7 +6,7 @@ ghost use Rattle.p21_reader.specs.Machine.{next};
 ghost use Rattle.p21_values.specs.Lexemes.{lexeme_of, class_of};
 ghost use Rattle.p21_values.specs.TokenPieces.{IsPiece};
 ghost use Rattle.p21_reader.specs.Instances.{Passes};
-ghost use Rattle.p21_reader.specs.Heading.{sign_of, signs_of, class_seen, Follows, FollowsNot};
+ghost use Rattle.p21_reader.specs.inner.Heading.{sign_of, signs_of, class_seen, Follows, FollowsNot};
 
 use crate::word::{Seen, look};
 use p21_values::{Piece, ReadFault, refused, take};

@@ -6,8 +6,8 @@ ghost use Rattle.p21_values.specs.declared.limits.TheConstants.{MOST_DEPTH};
 ghost use Rattle.p21_reader.specs.Machine.{step};
 ghost use Rattle.p21_values.specs.TokenPieces.{IsPiece, kind_of};
 ghost use Rattle.p21_values.specs.Lexemes.{NumberOf, single_says, Cuts};
-ghost use Rattle.p21_reader.specs.ValueNesting.{wanted, signs, IsFit, tells, EndsRow, HasRow};
-ghost use Rattle.p21_reader.specs.Tabling.{Counts, PassesRow, PassesRows, PassesMore, PassesValue};
+ghost use Rattle.p21_reader.specs.inner.ValueNesting.{wanted, signs, IsFit, tells, EndsRow, HasRow};
+ghost use Rattle.p21_reader.specs.inner.Tabling.{Counts, PassesRow, PassesRows, PassesMore, PassesValue};
 
 use crate::word::expect;
 use p21_lexer::number_there;

@@ -3,7 +3,7 @@ ghost use Rattle.std.specs.Prelude.{◌≡◌, ◌⊎◌, ◌≤◌, List, IfOk,
 ghost use Rattle.std.specs.Ordering.{nat_cmp};
 ghost use Rattle.std.specs.Bool.{OnTrue};
 ghost use Rattle.p21_values.specs.Counting.{values_of};
-ghost use Rattle.p21_reader.specs.Tabling.{Counts};
+ghost use Rattle.p21_reader.specs.inner.Tabling.{Counts};
 ghost use Rattle.p21_reader.specs.Uploads.{SpellsExchange, IsCause, IsTooMany, TablesUpload};
 ghost use Rattle.p21_values.specs.declared.limits.TheConstants.{MOST_VALUES, MOST_INSTANCES};
 ghost use Rattle.bim_model.specs.declared.limits.TheConstants.{MOST_UPLOAD};

@@ -1,7 +1,7 @@
 //! Whether a header names the schema that is read.
 ghost use Rattle.std.specs.Prelude.{◌≡◌, ◌≤◌, ◌∷◌, [], ◌++◌, List, length, IsTrue, ◌↔◌, IfOk, IfErr};
 ghost use Rattle.p21_reader.specs.Schema.{Statement, IsIfc4};
-ghost use Rattle.p21_reader.specs.Heading.{SaysSchema, OnlyIfc4, IsStatementAt};
+ghost use Rattle.p21_reader.specs.inner.Heading.{SaysSchema, OnlyIfc4, IsStatementAt};
 ghost use Rattle.p21_values.specs.TokenPieces.{IsPiece};
 
 use crate::ahead::only_text;

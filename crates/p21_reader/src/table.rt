@@ -6,7 +6,7 @@ ghost use Rattle.p21_values.specs.declared.limits.TheConstants.{MOST_DEPTH};
 ghost use Rattle.ifc_keywords.specs.Codes.{code_of as code_said};
 ghost use Rattle.p21_values.specs.Lexemes.{ReferenceTo, lexeme_of};
 ghost use Rattle.p21_values.specs.TokenPieces.{IsPiece};
-ghost use Rattle.p21_reader.specs.Tabling.{PutsStart, PutsFirst, PutsBehind, PutsMore, PutsStarts, PutsBody, PutsInstance, TablesSection};
+ghost use Rattle.p21_reader.specs.inner.Tabling.{PutsStart, PutsFirst, PutsBehind, PutsMore, PutsStarts, PutsBody, PutsInstance, TablesSection};
 
 use crate::passing::{pass_complex, pass_value};
 use crate::section::closing;

@@ -4,8 +4,8 @@ ghost use Rattle.std.specs.Char.{to_ascii_uppercase};
 ghost use Rattle.p21_values.specs.Lexemes.{ReferenceTo, lexeme_of, class_of, mark_of};
 ghost use Rattle.p21_lexer.specs.Cutting.{CutsFrom};
 ghost use Rattle.p21_values.specs.TokenPieces.{IsPiece, IsSign, NoToken};
-ghost use Rattle.p21_reader.specs.TokenReading.{Expects};
-ghost use Rattle.p21_reader.specs.Heading.{mark_seen, class_seen};
+ghost use Rattle.p21_reader.specs.inner.TokenReading.{Expects};
+ghost use Rattle.p21_reader.specs.inner.Heading.{mark_seen, class_seen};
 ghost use Rattle.p21_reader.specs.ExchangeFiles.{ReadsWord};
 
 use ifc_keywords::is_word;

@@ -8,7 +8,7 @@ use Rattle.p21_lexer.specs.declared.token.TokenKind.TheVariants as tokens
 use Rattle.p21_lexer.specs.Spelling.{Spells, is_single, value_after}
 use Rattle.p21_lexer.specs.TokenSeparators.{is_blank, Passes, IsStop}
 use Rattle.p21_lexer.specs.Cutting.{StopsAt, CutsFrom}
-use Rattle.p21_lexer.specs.Kinds.{kind_of as kind_by}
+use Rattle.p21_lexer.specs.inner.Kinds.{kind_of as kind_by}
 use Rattle.p21_lexer.proofs.Tokens.{headed, kind_single}
 use Rattle.p21_values.specs.declared.piece.Kind.TheVariants as kinds
 use Rattle.p21_values.specs.declared.value.Value21.{Value21}
@@ -21,7 +21,7 @@ use Rattle.p21_values.proofs.Pieces.{words_two}
 use Rattle.p21_values.proofs.Seen.{head_of}
 use Rattle.bim_text.specs.Short.{IsByteAt}
 use Rattle.p21_lexer.specs.declared.there.NameThere.{NameThere}
-use Rattle.p21_table.specs.FirstBytes.{BeginsToken, LeavesBehind}
+use Rattle.p21_table.specs.inner.FirstBytes.{BeginsToken, LeavesBehind}
 use Rattle.p21_lexer.specs.There.{token_of, IsOneValue, IsValueThere, IsNameThere}
 use Rattle.p21_table.proofs.FirstTokens.{first_cut, begun, first_inside, item_by, plain_end, absent_said, words_by, reference_by, absent_by, inside_by, not_inside, words_here, no_words, no_reference}
 use Rattle.p21_table.proofs.RowsThere.{sign_token, says_sign, cuts_open}

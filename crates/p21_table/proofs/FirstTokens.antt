@@ -16,7 +16,7 @@ use Rattle.p21_values.specs.Values.{number_in, words_in, letters_in, enumeration
 use Rattle.p21_values.specs.Lexemes.{Lexeme, Absence, Derivation, Opening, Closing, Separator, Ending, Assigning, NumberOf, WordsOf, EnumerationOf, BitsOf, KeywordOf, ReferenceTo, lexeme_of, class_of, says, single_says, inner, Cuts}
 use Rattle.p21_values.specs.Printing.{print, print_step, print_all, joined, behind}
 use Rattle.p21_values.specs.TokenPieces.{NoToken, kind_of}
-use Rattle.p21_values.specs.Saying.{Content, Contents, Absent, Derived, Number, Words, Enumeration, Bits, Reference, Listed, Typed, nothing, and, content, contents}
+use Rattle.p21_values.specs.inner.Saying.{Content, Contents, Absent, Derived, Number, Words, Enumeration, Bits, Reference, Listed, Typed, nothing, and, content, contents}
 use Rattle.p21_values.specs.Standing.{Stands, Begins, StandInside, StandBehind, Closes, depth_after}
 use Rattle.p21_values.proofs.Tokens.{no_token}
 use Rattle.p21_values.proofs.Tokens.{one_token}

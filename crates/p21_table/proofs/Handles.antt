@@ -13,7 +13,7 @@ use Rattle.p21_values.specs.Standing.{Stands, Begins, StandInside}
 use Rattle.p21_values.specs.Values.{items_of, typed_of}
 use Rattle.p21_values.proofs.SignsThere.{sign_cut}
 use Rattle.p21_values.proofs.Stood.{stands_once, one_inside}
-use Rattle.p21_table.specs.FirstBytes.{LeavesBehind}
+use Rattle.p21_table.specs.inner.FirstBytes.{LeavesBehind}
 use Rattle.p21_table.specs.Stood.{Stood, one_stood}
 use Rattle.p21_table.proofs.FirstTokens.{first_inside}
 

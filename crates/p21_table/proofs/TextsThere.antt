@@ -7,8 +7,8 @@ use Rattle.std.proofs.lemmas.List.Folds.{drop_split, list_all_more}
 use Rattle.std.proofs.Math.Seq.{take-append_seam}
 use Rattle.bim_model.specs.Guids.{is_guid_char}
 use Rattle.p21_lexer.specs.declared.token.TokenKind.TheVariants as tokens
-use Rattle.p21_lexer.specs.Kinds.{kind_of, span}
-use Rattle.p21_lexer.specs.TokenSpans.{text_span}
+use Rattle.p21_lexer.specs.inner.Kinds.{kind_of, span}
+use Rattle.p21_lexer.specs.inner.TokenSpans.{text_span}
 use Rattle.p21_lexer.specs.There.{StandsThere, IsValueThere}
 use Rattle.p21_lexer.proofs.RunLemmas.{behind_at}
 use Rattle.p21_lexer.proofs.Stands.{stands}
@@ -16,7 +16,7 @@ use Rattle.p21_values.specs.declared.value.Value21.{Value21}
 use Rattle.p21_values.specs.Lexemes.{inner}
 use Rattle.p21_values.specs.Standing.{Stands}
 use Rattle.p21_values.specs.Values.{words_of}
-use Rattle.p21_table.specs.FirstBytes.{BeginsToken}
+use Rattle.p21_table.specs.inner.FirstBytes.{BeginsToken}
 use Rattle.p21_table.proofs.FirstBytesThere.{words_there}
 
 -- The table of a class of bytes.

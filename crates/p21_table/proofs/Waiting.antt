@@ -9,7 +9,7 @@ use Rattle.p21_lexer.specs.declared.token.Token.{Token}
 use Rattle.p21_lexer.specs.Spelling.{Spells}
 use Rattle.p21_lexer.specs.TokenSeparators.{is_blank, IsPiece, Passes, IsStop, Skips}
 use Rattle.p21_lexer.specs.Cutting.{IsFirst, StopsAt, CutsFrom}
-use Rattle.p21_lexer.specs.Kinds.{kind_of as kind_by}
+use Rattle.p21_lexer.specs.inner.Kinds.{kind_of as kind_by}
 use Rattle.p21_lexer.proofs.Tokens.{headed}
 use Rattle.p21_values.specs.declared.fault.ReadFault.{ReadFault}
 use Rattle.p21_values.specs.declared.piece.Kind.{Kind}

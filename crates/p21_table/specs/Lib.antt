@@ -1,3 +1,3 @@
 pub mod ShortRows
-pub mod FirstBytes
 pub mod Stood
+pub mod inner

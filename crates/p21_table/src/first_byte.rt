@@ -6,7 +6,7 @@ ghost use Rattle.bim_text.specs.TextSpellings.{is_plain};
 ghost use Rattle.p21_values.specs.declared.value.Value21.{Value21};
 ghost use Rattle.p21_values.specs.Values.{words_of, reference_of, items_of, is_absent};
 ghost use Rattle.p21_values.specs.Standing.{Stands, StandInside};
-ghost use Rattle.p21_table.specs.FirstBytes.{BeginsToken, LeavesBehind};
+ghost use Rattle.p21_table.specs.inner.FirstBytes.{BeginsToken, LeavesBehind};
 
 use crate::simple::inner;
 use crate::standing::sign_behind;

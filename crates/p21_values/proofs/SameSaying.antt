@@ -6,7 +6,7 @@ use Rattle.p21_values.specs.declared.value.Value21.TheOpen as layer
 use Rattle.p21_values.specs.declared.value.Value21.TheViews.{roll-Value21}
 use Rattle.p21_values.specs.declared.value.Value21.TheFolds.{fold-roll-Value21, ind-Value21, map-Value21}
 use Rattle.p21_values.specs.declared.value.Instance.{Instance}
-use Rattle.p21_values.specs.Saying.{Content, Contents, Absent, Derived, Number, Words, Enumeration, Bits, Reference, Listed, Typed, nothing, and, content, content_step, contents, saying}
+use Rattle.p21_values.specs.inner.Saying.{Content, Contents, Absent, Derived, Number, Words, Enumeration, Bits, Reference, Listed, Typed, nothing, and, content, content_step, contents, saying}
 
 -- The value that says that.
 

@@ -8,7 +8,7 @@ use Rattle.p21_lexer.specs.declared.token.TokenKind.TheVariants as tokens
 use Rattle.p21_lexer.specs.Spelling.{Spells, IsSingle, is_single}
 use Rattle.p21_lexer.specs.TokenSeparators.{is_blank, IsStop}
 use Rattle.p21_lexer.specs.Cutting.{IsFirst, CutsFrom}
-use Rattle.p21_lexer.specs.Kinds.{kind_of as kind_by}
+use Rattle.p21_lexer.specs.inner.Kinds.{kind_of as kind_by}
 use Rattle.p21_lexer.proofs.Tokens.{headed, kind_single}
 use Rattle.p21_values.specs.declared.piece.Kind.{Kind}
 use Rattle.p21_values.specs.Lexemes.{class_of, single_says, lexeme_of}

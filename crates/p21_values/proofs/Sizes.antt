@@ -6,7 +6,7 @@ use Rattle.p21_values.specs.declared.value.Value21.TheOpen.{Value21-F}
 use Rattle.p21_values.specs.declared.value.Value21.TheOpen as layer
 use Rattle.p21_values.specs.declared.value.Value21.TheFolds.{fold-roll-Value21, ind-Value21, map-Value21}
 use Rattle.p21_values.specs.Counting.{size, size_step}
-use Rattle.p21_values.specs.Saying.{Content, Contents, Listed, Typed, nothing, and, content, content_step, contents}
+use Rattle.p21_values.specs.inner.Saying.{Content, Contents, Listed, Typed, nothing, and, content, content_step, contents}
 
 -- How many values a value is, of what it says.
 

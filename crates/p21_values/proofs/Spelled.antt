@@ -6,7 +6,7 @@ use Rattle.p21_values.specs.declared.value.Value21.TheOpen as layer
 use Rattle.p21_values.specs.declared.value.Value21.TheFolds.{fold-roll-Value21, ind-Value21, map-Value21}
 use Rattle.p21_values.specs.Lexemes.{Lexeme, Absence, Derivation, Opening, Closing, Separator, NumberOf, WordsOf, EnumerationOf, BitsOf, KeywordOf, ReferenceTo}
 use Rattle.p21_values.specs.Printing.{print, print_step, print_all, behind, joined}
-use Rattle.p21_values.specs.Saying.{Content, Contents, Absent, Derived, Number, Words, Enumeration, Bits, Reference, Listed, Typed, nothing, and, content, content_step, contents}
+use Rattle.p21_values.specs.inner.Saying.{Content, Contents, Absent, Derived, Number, Words, Enumeration, Bits, Reference, Listed, Typed, nothing, and, content, content_step, contents}
 
 -- The tokens that spell a value, of what it says.
 

@@ -15,7 +15,7 @@ use Rattle.p21_values.specs.declared.value.Instance.{Instance}
 use Rattle.p21_values.specs.declared.instance_head.Head.{Head}
 use Rattle.p21_values.specs.Lexemes.{Lexeme, Closing, lexeme_of, Cuts}
 use Rattle.p21_values.specs.Printing.{print, print_all}
-use Rattle.p21_values.specs.Saying.{content, contents}
+use Rattle.p21_values.specs.inner.Saying.{content, contents}
 use Rattle.p21_values.specs.Standing.{Stands, StandInside}
 use Rattle.p21_values.specs.Tables.{NamesKeyword, Tells, Holds, Meaning, starts_of}
 use Rattle.p21_values.proofs.Tokens.{one_token}

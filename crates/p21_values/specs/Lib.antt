@@ -6,7 +6,7 @@ pub mod InstanceLookup
 pub mod TokenPieces
 pub mod InstancePlaces
 pub mod Printing
-pub mod Saying
 pub mod Standing
 pub mod Tables
 pub mod Values
+pub mod inner

@@ -7,7 +7,7 @@ use Rattle.std.proofs.lemmas.Bool.{cases_lt}
 use Rattle.p21_values.specs.declared.value.Instance.{Instance}
 use Rattle.placement.specs.declared.walk.Walk.{Walk}
 use Rattle.placement.specs.Chains.{Ends, IsLeastLoop, AreChains}
-use Rattle.placement.specs.Walks.{Settled, AllReached}
+use Rattle.placement.specs.inner.Walks.{Settled, AllReached}
 use Rattle.placement.proofs.Visiting.{order_ends}
 
 pub all_named : (named copied sorted : List ℕ) (id : ℕ) → copied ≡ named → IsPermutation copied sorted → Contains sorted id → Contains named id

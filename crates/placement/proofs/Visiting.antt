@@ -5,7 +5,7 @@ use Rattle.std.proofs.lemmas.List.Elements.{Contains-append_left, Contains-push,
 use Rattle.p21_values.specs.declared.value.Instance.{Instance}
 use Rattle.placement.specs.declared.walk.Walk.{Walk}
 use Rattle.placement.specs.Chains.{Ends, here, above, StandsIn, ParentsFirst, Reached, directly, further}
-use Rattle.placement.specs.Walks.{Ranked, Rest, Linked, Climbed, Outcome, Settling, Settled, IsFrom, Added, Visited}
+use Rattle.placement.specs.inner.Walks.{Ranked, Rest, Linked, Climbed, Outcome, Settling, Settled, IsFrom, Added, Visited}
 use Rattle.placement.proofs.Walking.{same_or, first_push}
 
 -- the next one goes into the order

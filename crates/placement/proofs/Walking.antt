@@ -9,7 +9,7 @@ use Rattle.p21_values.specs.InstanceLookup.{look}
 use Rattle.p21_values.specs.InstancePlaces.{IsPlaceOf}
 use Rattle.p21_values.proofs.PlaceLemmas.{some_instance}
 use Rattle.placement.specs.Chains.{parent_in, parent_of, Ends, here, above, StandsIn, ParentsFirst}
-use Rattle.placement.specs.Walks.{rank_at, is_new, Ranked, Climbs, Climbed, Outcome}
+use Rattle.placement.specs.inner.Walks.{rank_at, is_new, Ranked, Climbs, Climbed, Outcome}
 
 pub same_or : (k n : ℕ) → (k ≡ n) ⊎ (k ≢ n)
 same_or k n = grind arith

@@ -2,6 +2,5 @@ pub mod Frames
 pub mod Directions
 pub mod Chains
 pub mod Placed
-pub mod SpelledTriples
-pub mod Walks
 pub mod Operators
+pub mod inner

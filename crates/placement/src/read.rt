@@ -2,7 +2,7 @@
 ghost use Rattle.std.specs.Prelude.{◌≡◌, ℕ, IfSome, IfNone, option_map};
 ghost use Rattle.p21_values.specs.declared.value.Value21.{Value21};
 ghost use Rattle.placement.specs.Directions.{IsDirection, three_numbers, coordinates, numbers_of};
-ghost use Rattle.placement.specs.SpelledTriples.{spelled_of};
+ghost use Rattle.placement.specs.inner.SpelledTriples.{spelled_of};
 ghost use Rattle.placement.specs.declared.direction.Direction.{Direction};
 
 use crate::direction::Direction;

@@ -3,7 +3,7 @@ ghost use Rattle.std.specs.Prelude.{◌≡◌, ◌+◌, ◌<◌, ◌≤◌, ◌^
 ghost use Rattle.p21_values.specs.declared.value.Instance.{Instance};
 ghost use Rattle.p21_values.specs.declared.limits.TheConstants.{MOST_INSTANCES};
 ghost use Rattle.placement.specs.Chains.{parent_in, parent_of, named_by};
-ghost use Rattle.placement.specs.Walks.{Ranked, Outcome, Rest, Settling, Settled, Visited, StandsAt, IsFrom};
+ghost use Rattle.placement.specs.inner.Walks.{Ranked, Outcome, Rest, Settling, Settled, Visited, StandsAt, IsFrom};
 
 use p21_table::{Exchange, InstanceRef, ValueRef};
 use std::alloc::{AllocError, Global};

@@ -20,8 +20,8 @@ use Rattle.book_history.proofs.Given.{given_out}
 use Rattle.book_history.proofs.Legality.{given_later}
 use Rattle.bcf_http.specs.Asked.{BringsNone}
 use Rattle.bim_session.specs.Works.{IsFoundFor}
-use Rattle.server_commands.specs.Turns.{ServerState, Calls, with_turn, stamp_of, left_of}
-use Rattle.server_commands.specs.BucketWork.{GivesOut}
+use Rattle.server_commands.specs.inner.Turns.{ServerState, Calls, with_turn, stamp_of, left_of}
+use Rattle.server_commands.specs.inner.BucketWork.{GivesOut}
 
 -- a call that brings no set may be made at every history
 pub legal_of : (settings : Settings) (h : List Entry) (call : BookRequest) → BringsNone call → IsLegal settings h call

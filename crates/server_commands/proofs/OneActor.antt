@@ -17,9 +17,9 @@ use Rattle.bim_session.specs.Works.{Standing, Works, WorksShort, Gives, IsEnough
 use Rattle.bim_session.specs.Talking.{BookReceipt}
 use Rattle.bim_session.proofs.Sessions.{last_turn-append}
 use Rattle.link_session.specs.Callers.{CallerLaws, WorksBehind, start_of}
-use Rattle.server_commands.specs.Turns.{ServerState, Calls, with_turn, stamp_of, left_of}
-use Rattle.server_commands.specs.BucketWork.{WorksAll, WorksSome}
-use Rattle.server_commands.specs.OneActor.{seen_alone, IsSettled, GoesAlone}
+use Rattle.server_commands.specs.inner.Turns.{ServerState, Calls, with_turn, stamp_of, left_of}
+use Rattle.server_commands.specs.inner.BucketWork.{WorksAll, WorksSome}
+use Rattle.server_commands.specs.inner.OneActor.{seen_alone, IsSettled, GoesAlone}
 use Rattle.server_commands.proofs.Worked.{Extends, step_of, extends_none, extends_one, extends_on, times_steps, times_extends, times_turns, at_server, on_here, on_extended, left_here, part_steps, part_extends, part_given, left_before}
 
 -- ---- entries

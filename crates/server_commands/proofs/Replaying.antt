@@ -10,8 +10,8 @@ use Rattle.bim_session.specs.Replay.{Replays, beginning}
 use Rattle.link_session.specs.CallerSessions.{Serves}
 use Rattle.link_session.proofs.SoFar.{service_of}
 use Rattle.link_session.proofs.Ending.{nothing_done}
-use Rattle.server_commands.specs.Turns.{ServerState}
-use Rattle.server_commands.specs.OneActor.{seen_alone, IsSettled, GoesAlone}
+use Rattle.server_commands.specs.inner.Turns.{ServerState}
+use Rattle.server_commands.specs.inner.OneActor.{seen_alone, IsSettled, GoesAlone}
 use Rattle.server_commands.proofs.OneActor.{laws_alone, stays_alone}
 
 -- a book without a history

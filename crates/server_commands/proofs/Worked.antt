@@ -11,8 +11,8 @@ use Rattle.book_history.specs.Runs.{Step, IsRun, IsOneThread}
 use Rattle.book_history.proofs.Histories.{AreOf, AreAbove, added_of, above_of, at_turn-new, at_turn-grown, Runs_push, follows_one, one_push}
 use Rattle.bim_session.specs.Works.{Standing, IsTaken, Gives, WorksOne, WorksOn, left_behind, last_turn}
 use Rattle.bim_session.proofs.Sessions.{gives_grown, on_grown, last_turn-append, entry_new}
-use Rattle.server_commands.specs.Turns.{ServerState, with_turn, stamp_of, left_of}
-use Rattle.server_commands.specs.BucketWork.{GivesOut, WorksBucket, WorksTimes, WorksPart}
+use Rattle.server_commands.specs.inner.Turns.{ServerState, with_turn, stamp_of, left_of}
+use Rattle.server_commands.specs.inner.BucketWork.{GivesOut, WorksBucket, WorksTimes, WorksPart}
 
 -- the step of a call at the next turn
 abbrev pub step_of : ServerState → BookRequest → Step

@@ -1,6 +1,6 @@
 //! A caller of a book that no one else calls.
 ghost use Rattle.bim_session.specs.Replay.{stated_settings};
-ghost use Rattle.server_commands.specs.OneActor.{seen_alone, IsSettled, GoesAlone};
+ghost use Rattle.server_commands.specs.inner.OneActor.{seen_alone, IsSettled, GoesAlone};
 
 use crate::one_thread::OneThread;
 use book_history::BookRequest;

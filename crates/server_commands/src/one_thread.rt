@@ -5,8 +5,8 @@ ghost use Rattle.book_history.specs.History.{IsBefore, left_all};
 ghost use Rattle.book_history.specs.Legal.{IsLegal};
 ghost use Rattle.bim_session.specs.Works.{IsFoundFor};
 ghost use Rattle.bim_session.specs.Replay.{stated_settings};
-ghost use Rattle.server_commands.specs.Turns.{Calls, left_of};
-ghost use Rattle.server_commands.specs.BucketWork.{WorksBucket, WorksPart, WorksUpTo, WorksLess, WorksAll, WorksSome};
+ghost use Rattle.server_commands.specs.inner.Turns.{Calls, left_of};
+ghost use Rattle.server_commands.specs.inner.BucketWork.{WorksBucket, WorksPart, WorksUpTo, WorksLess, WorksAll, WorksSome};
 
 use bim_model::{Shared, Steps};
 use book_history::{BookRequest, Limits, MOST_PROJECTS, ReplyBody, Stamp, WorkOrder};
@@ -29,7 +29,7 @@ pub struct OneThread {
 impl Model for OneThread {
     ghost use Rattle.std.specs.Prelude.{◌+◌};
     ghost use Rattle.book_history.specs.History.{IsBefore};
-    ghost use Rattle.server_commands.specs.Turns.{ServerState};
+    ghost use Rattle.server_commands.specs.inner.Turns.{ServerState};
 
     ghost Value = { ServerState };
 

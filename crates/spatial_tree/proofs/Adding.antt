@@ -6,7 +6,7 @@ use Rattle.std.specs.List.Sorted.{IsPermutation}
 use Rattle.std.proofs.lemmas.List.Sorted.{Contains-permutation, IsPermutation-sym}
 use Rattle.p21_values.proofs.Turns.{one_more}
 use Rattle.spatial_tree.specs.declared.relations.Link.{Link}
-use Rattle.spatial_tree.specs.Onlys.{Adds, ListsLinks, link}
+use Rattle.spatial_tree.specs.inner.Onlys.{Adds, ListsLinks, link}
 
 -- it holds of one of the first
 pub record AnyBefore {X : Type 0} (P : X → Type 0) (xs : List X) (i : ℕ) : Type 0 where

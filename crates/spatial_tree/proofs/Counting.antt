@@ -7,7 +7,7 @@ use Rattle.spatial_tree.specs.declared.relations.Link.{Link}
 use Rattle.spatial_tree.specs.declared.only.Only.{Only}
 use Rattle.spatial_tree.specs.declared.only.Only.TheVariants.{Nothing, One, Several}
 use Rattle.spatial_tree.specs.Climbing.{HasTwo, IsNext}
-use Rattle.spatial_tree.specs.Onlys.{Has, link, Counts, with_number, is_several, next_in}
+use Rattle.spatial_tree.specs.inner.Onlys.{Has, link, Counts, with_number, is_several, next_in}
 use Rattle.spatial_tree.proofs.Adding.{AnyBefore, before_more, before_kept, before_here}
 
 -- the same numbers are counted alike

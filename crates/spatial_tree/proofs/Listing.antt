@@ -12,9 +12,9 @@ use Rattle.ifc_instances.specs.EntityLookup.{is_a}
 use Rattle.spatial_tree.specs.declared.step.Step.{Step}
 use Rattle.spatial_tree.specs.declared.mark.Mark.{Mark}
 use Rattle.spatial_tree.specs.declared.mark.Mark.TheVariants.{Looped}
-use Rattle.spatial_tree.specs.StoreyMarks.{mark_at}
+use Rattle.spatial_tree.specs.inner.StoreyMarks.{mark_at}
 use Rattle.spatial_tree.specs.Trees.{ListsStoreyIds}
-use Rattle.spatial_tree.specs.TreeFaults.{IsFaulty}
+use Rattle.spatial_tree.specs.inner.TreeFaults.{IsFaulty}
 use Rattle.spatial_tree.proofs.Adding.{AnyBefore, before_more, before_kept, before_here, any_from_before, before_from_any}
 
 abbrev pub IsStoreyOfId : ℕ → Instance → Type 0

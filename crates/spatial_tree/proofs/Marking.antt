@@ -8,8 +8,8 @@ use Rattle.ifc_instances.proofs.Rising.{below_next}
 use Rattle.spatial_tree.specs.declared.step.Step.{Step}
 use Rattle.spatial_tree.specs.declared.mark.Mark.{Mark}
 use Rattle.spatial_tree.specs.declared.mark.Mark.TheVariants.{Unseen, OnWay, Looped, Settled}
-use Rattle.spatial_tree.specs.UpwardSteps.{Goes, AreWithin}
-use Rattle.spatial_tree.specs.StoreyMarks.{mark_at, WasPut, IsWay, EndsSeen, Climbed}
+use Rattle.spatial_tree.specs.inner.UpwardSteps.{Goes, AreWithin}
+use Rattle.spatial_tree.specs.inner.StoreyMarks.{mark_at, WasPut, IsWay, EndsSeen, Climbed}
 use Rattle.spatial_tree.proofs.Rounds.{decide, one_up}
 
 pub mark_same : (marks : List Mark) (at : ℕ) (m : Mark) → at < length marks → mark_at (set marks at m) at ≡ m

@@ -9,7 +9,7 @@ use Rattle.p21_values.specs.Values.{reference_of, items_of}
 use Rattle.ifc_instances.specs.EntityLookup.{is_a}
 use Rattle.spatial_tree.specs.declared.relations.Link.{Link}
 use Rattle.spatial_tree.specs.Relations.{Relates}
-use Rattle.spatial_tree.specs.Onlys.{Adds}
+use Rattle.spatial_tree.specs.inner.Onlys.{Adds}
 
 abbrev pub Pairs : List Value21 → ℕ → ℕ → ℕ → Type 0
 Pairs items above object up = Any (λ v. (reference_of v ≡ Some object) × (up ≡ above)) items

@@ -8,11 +8,11 @@ use Rattle.spatial_tree.specs.declared.mark.Mark.{Mark}
 use Rattle.spatial_tree.specs.declared.storey_tree.Placed.{Placed}
 use Rattle.spatial_tree.specs.Relations.{HasContainer, HasWhole, IsStorey}
 use Rattle.spatial_tree.specs.Trees.{Next, IsTorn, IsTree, LeastTreeFault, ListsStoreys, ListsStoreyIds, HasTreeFault}
-use Rattle.spatial_tree.specs.Onlys.{Has, ListsLinks}
-use Rattle.spatial_tree.specs.UpwardSteps.{NextIn, TornIn, AreWithin, IsTableOf}
-use Rattle.spatial_tree.specs.StoreyMarks.{IsSurveyed}
+use Rattle.spatial_tree.specs.inner.Onlys.{Has, ListsLinks}
+use Rattle.spatial_tree.specs.inner.UpwardSteps.{NextIn, TornIn, AreWithin, IsTableOf}
+use Rattle.spatial_tree.specs.inner.StoreyMarks.{IsSurveyed}
 use Rattle.spatial_tree.specs.Placing.{ArePlaced}
-use Rattle.spatial_tree.specs.TreeFaults.{IsFirstFault}
+use Rattle.spatial_tree.specs.inner.TreeFaults.{IsFirstFault}
 use Rattle.spatial_tree.proofs.Counting.{next_once}
 use Rattle.spatial_tree.proofs.Stepping.{steps_map, steps_within, next_map, torn_map}
 use Rattle.spatial_tree.proofs.Listing.{fault_within}

@@ -4,8 +4,8 @@ use Rattle.std.proofs.lemmas.List.{get_or_default}
 use Rattle.std.proofs.lemmas.Option.{same_Some}
 use Rattle.spatial_tree.specs.declared.step.Step.{Step}
 use Rattle.spatial_tree.specs.Climbing.{IsAbove, next, further}
-use Rattle.spatial_tree.specs.UpwardSteps.{Goes, IsRound}
-use Rattle.spatial_tree.specs.StoreyMarks.{IsWay}
+use Rattle.spatial_tree.specs.inner.UpwardSteps.{Goes, IsRound}
+use Rattle.spatial_tree.specs.inner.StoreyMarks.{IsWay}
 
 pub decide : (a b : ℕ) → (a ≡ b) ⊎ (a ≡ b → ⊥)
 decide a b = elim (order a b) [

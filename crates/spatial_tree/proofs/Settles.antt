@@ -9,8 +9,8 @@ use Rattle.spatial_tree.specs.declared.step.Step.{Step}
 use Rattle.spatial_tree.specs.declared.mark.Mark.{Mark}
 use Rattle.spatial_tree.specs.declared.mark.Mark.TheVariants.{Unseen, OnWay, Looped, Settled}
 use Rattle.spatial_tree.specs.Climbing.{IsAbove}
-use Rattle.spatial_tree.specs.UpwardSteps.{up_of, storey_at, Goes, AreWithin, IsRound, Finds, here, further}
-use Rattle.spatial_tree.specs.StoreyMarks.{mark_at, told_by, Answers, IsSettled, Says, AreRight, AreIdle, KeepsSeen, Climbed, Known, IsDone, Rounded, Settling, IsSurveyed}
+use Rattle.spatial_tree.specs.inner.UpwardSteps.{up_of, storey_at, Goes, AreWithin, IsRound, Finds, here, further}
+use Rattle.spatial_tree.specs.inner.StoreyMarks.{mark_at, told_by, Answers, IsSettled, Says, AreRight, AreIdle, KeepsSeen, Climbed, Known, IsDone, Rounded, Settling, IsSurveyed}
 use Rattle.spatial_tree.proofs.Rounds.{one_up, rotated, back_to, kept_above, first_step, comes_round}
 use Rattle.spatial_tree.proofs.Marking.{set_cases, way_pop, pop_next, push_length, push_end, mark_same}
 

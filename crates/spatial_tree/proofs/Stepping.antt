@@ -9,7 +9,7 @@ use Rattle.ifc_instances.proofs.Rising.{below_next}
 use Rattle.spatial_tree.specs.declared.step.Step.{Step}
 use Rattle.spatial_tree.specs.Climbing.{HasTwo, IsNext, IsAbove, IsFirstStorey}
 use Rattle.spatial_tree.specs.Climbing as climbing
-use Rattle.spatial_tree.specs.UpwardSteps.{up_in, storey_in, up_of, storey_at, Goes, IsRound, AreWithin, Finds, here, further, IsPlaceIn, IsStepOf, AreStepsOf, AreFirstStepsOf}
+use Rattle.spatial_tree.specs.inner.UpwardSteps.{up_in, storey_in, up_of, storey_at, Goes, IsRound, AreWithin, Finds, here, further, IsPlaceIn, IsStepOf, AreStepsOf, AreFirstStepsOf}
 use Rattle.spatial_tree.proofs.Rounds.{first_step}
 
 some_step : Step

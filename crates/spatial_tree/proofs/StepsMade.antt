@@ -14,8 +14,8 @@ use Rattle.std.proofs.lemmas.Option.{same_Some}
 use Rattle.spatial_tree.specs.declared.relations.Link.{Link}
 use Rattle.spatial_tree.specs.declared.only.Only.{Only}
 use Rattle.spatial_tree.specs.declared.step.Step.{Step}
-use Rattle.spatial_tree.specs.Onlys.{Has, Counts, is_several, next_in}
-use Rattle.spatial_tree.specs.UpwardSteps.{NextIn, TornIn, IsPlaceIn, IsStepOf}
+use Rattle.spatial_tree.specs.inner.Onlys.{Has, Counts, is_several, next_in}
+use Rattle.spatial_tree.specs.inner.UpwardSteps.{NextIn, TornIn, IsPlaceIn, IsStepOf}
 use Rattle.spatial_tree.proofs.Adding.{AnyBefore, before_more}
 use Rattle.spatial_tree.proofs.Counting.{next_counted, next_once, several_two, two_several}
 

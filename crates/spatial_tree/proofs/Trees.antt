@@ -16,9 +16,9 @@ use Rattle.spatial_tree.specs.declared.mark.Mark.TheVariants.{Unseen, OnWay, Loo
 use Rattle.spatial_tree.specs.declared.storey_tree.Placed.{Placed}
 use Rattle.spatial_tree.specs.Climbing.{IsAbove, IsFirstStorey}
 use Rattle.spatial_tree.specs.Placing.{placed, Tells, ArePlaced}
-use Rattle.spatial_tree.specs.UpwardSteps.{Goes, IsRound, Finds, here, further, storey_at, AreStepsOf}
-use Rattle.spatial_tree.specs.StoreyMarks.{mark_at, told_by, IsSurveyed, IsSettled, Says, IsDone}
-use Rattle.spatial_tree.specs.TreeFaults.{IsFaulty}
+use Rattle.spatial_tree.specs.inner.UpwardSteps.{Goes, IsRound, Finds, here, further, storey_at, AreStepsOf}
+use Rattle.spatial_tree.specs.inner.StoreyMarks.{mark_at, told_by, IsSurveyed, IsSettled, Says, IsDone}
+use Rattle.spatial_tree.specs.inner.TreeFaults.{IsFaulty}
 use Rattle.spatial_tree.proofs.Rounds.{first_step, one_up}
 use Rattle.spatial_tree.proofs.Stepping.{IsAt, stands, at_within, round_place, above_objects, finds_storey, storey_finds, first_up, from_within}
 

@@ -3,7 +3,7 @@ use Rattle.std.specs.Prelude.{◌≡◌, ℕ, ◌<◌, List, Contains, Some, sli
 use Rattle.spatial_tree.specs.declared.mark.Mark.{Mark}
 use Rattle.spatial_tree.specs.declared.mark.Mark.TheVariants.{Settled}
 use Rattle.spatial_tree.specs.declared.storey_tree.Placed.{Placed}
-use Rattle.spatial_tree.specs.StoreyMarks.{mark_at}
+use Rattle.spatial_tree.specs.inner.StoreyMarks.{mark_at}
 
 -- an object with its storey
 abbrev pub placed : ℕ → ℕ → Placed

@@ -2,7 +2,7 @@
 ghost use Rattle.std.specs.Prelude.{◌≡◌, ◌<◌, length, IfOk, IfErr, slice_index};
 ghost use Rattle.std.specs.List.Sorted.{IsNonDecreasing};
 ghost use Rattle.spatial_tree.specs.Trees.{IsTree, IsRefused, ListsStoreys, ListsStoreyIds};
-ghost use Rattle.spatial_tree.specs.TreeFaults.{IsFirstFault};
+ghost use Rattle.spatial_tree.specs.inner.TreeFaults.{IsFirstFault};
 
 use crate::mark::{Mark, mark_at, survey};
 use crate::relations::links_of;

@@ -1,7 +1,7 @@
 //! Which places come again on their own way up, and which storey is first on the way of the others.
 ghost use Rattle.std.specs.Prelude.{◌≡◌, ◌≢◌, ◌<◌, ℕ, [], length, IfOk, OnOk, MatchOption, slice_set};
-ghost use Rattle.spatial_tree.specs.UpwardSteps.{AreWithin, IsRound, Goes, up_of, storey_at};
-ghost use Rattle.spatial_tree.specs.StoreyMarks.{mark_at, told_by, AreRight, AreIdle, Climbed, Rounded, Known, Settling, Answers, KeepsSeen, IsSurveyed, IsDone};
+ghost use Rattle.spatial_tree.specs.inner.UpwardSteps.{AreWithin, IsRound, Goes, up_of, storey_at};
+ghost use Rattle.spatial_tree.specs.inner.StoreyMarks.{mark_at, told_by, AreRight, AreIdle, Climbed, Rounded, Known, Settling, Answers, KeepsSeen, IsSurveyed, IsDone};
 
 use crate::step::Step;
 use std::alloc::{AllocError, Global};

@@ -1,7 +1,7 @@
 //! How many different numbers stand above an object.
 ghost use Rattle.std.specs.Prelude.{◌≡◌, ◌||◌, IsSortedByKey};
 ghost use Rattle.std.specs.Ordering.{nat_cmp};
-ghost use Rattle.spatial_tree.specs.Onlys.{Has, Counts, with_number, is_several, next_in};
+ghost use Rattle.spatial_tree.specs.inner.Onlys.{Has, Counts, with_number, is_several, next_in};
 
 use crate::relations::Link;
 

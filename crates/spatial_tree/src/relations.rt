@@ -4,7 +4,7 @@ ghost use Rattle.std.specs.List.{slice_get};
 ghost use Rattle.std.specs.Ordering.{nat_cmp};
 ghost use Rattle.p21_values.specs.Values.{reference_of, items_of};
 ghost use Rattle.spatial_tree.specs.Relations.{Relates, IsRelated};
-ghost use Rattle.spatial_tree.specs.Onlys.{ListsLinks, Adds, link};
+ghost use Rattle.spatial_tree.specs.inner.Onlys.{ListsLinks, Adds, link};
 
 use ifc_instances::Entity;
 use p21_table::{Exchange, InstanceRef, Instances, Values};

@@ -2,8 +2,8 @@
 ghost use Rattle.std.specs.Prelude.{ℕ, Contains, IfOk, OnOk, IsSortedByKey};
 ghost use Rattle.std.specs.List.Sorted.{IsStrictlyIncreasing, IsNonDecreasing};
 ghost use Rattle.std.specs.Ordering.{nat_cmp};
-ghost use Rattle.spatial_tree.specs.Onlys.{Has};
-ghost use Rattle.spatial_tree.specs.UpwardSteps.{NextIn, TornIn, IsPlaceIn, IsStepOf, AreStepsOf, IsTableOf};
+ghost use Rattle.spatial_tree.specs.inner.Onlys.{Has};
+ghost use Rattle.spatial_tree.specs.inner.UpwardSteps.{NextIn, TornIn, IsPlaceIn, IsStepOf, AreStepsOf, IsTableOf};
 
 use crate::only::{count_above, is_torn, next_above};
 use crate::relations::Link;

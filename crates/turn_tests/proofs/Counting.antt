@@ -3,7 +3,7 @@ use Rattle.std.proofs.Common.{◌≡◌, ℕ, zero, suc, refl, ◌+◌, List, []
 use Rattle.book_turn.specs.declared.object.Stamp.{Stamp}
 use Rattle.book_turn.specs.Entries.{calls_by}
 use Rattle.book_turn.specs.Passes.{PassState, TurnState, KeepsNumbers, new_pass, new_passes}
-use Rattle.turn_tests.specs.EntryCounts.{own_count}
+use Rattle.turn_tests.specs.inner.EntryCounts.{own_count}
 use Rattle.book_turn.proofs.Prefixes.{calls_by-append}
 
 -- an entry of its own is one more, and those of others are none

@@ -2,7 +2,7 @@
 ghost use Rattle.std.specs.Prelude.{ℕ, ◌≡◌, ◌<◌, ◌≤◌, ◌+◌, [], ◌∷◌, length, vec_len, Some, None, IfSome, All, if◌then◌else◌};
 ghost use Rattle.book_turn.specs.Entries.{calls_by};
 ghost use Rattle.book_turn.specs.Passes.{BelongsTo, IsSingle, KeepsNumbers};
-ghost use Rattle.turn_tests.specs.EntryCounts.{own_count};
+ghost use Rattle.turn_tests.specs.inner.EntryCounts.{own_count};
 ghost use Rattle.std.proofs.Common.{arith};
 
 use book_turn::call_fault::{CallFault, SpentPass};

@@ -1,5 +1,5 @@
 use Rattle.std.proofs.Common.{◌≡◌, ◌+◌, ◌-◌, ◌≤◌, length, drop}
-use Rattle.bim_text.specs.NumberScanning.{front, kept_after, wide}
+use Rattle.bim_text.specs.inner.NumberScanning.{front, kept_after, wide}
 use Rattle.bim_text.proofs.digits.scan_few.Given as goal
 
 abbrev pub invariant-loop-at : goal.invariant-loop-at

@@ -1,5 +1,5 @@
 use Rattle.std.proofs.Common.{◌≡◌, ◌+◌, ◌-◌, ◌^◌, ◌<◌, ◌≤◌, length, drop}
-use Rattle.bim_text.specs.NumberScanning.{front, kept_after}
+use Rattle.bim_text.specs.inner.NumberScanning.{front, kept_after}
 use Rattle.bim_text.specs.declared.limits.TheConstants.{MOST_DIGITS}
 use Rattle.bim_text.proofs.digits.scan_many.Given as goal
 

@@ -1,6 +1,6 @@
 use Rattle.std.proofs.Common.{◌≡◌, ◌+◌, ◌-◌, ◌≤◌, length, drop}
 use Rattle.p21_lexer.specs.Spelling.{value_after}
-use Rattle.bim_text.specs.NumberScanning.{front, HasRoom}
+use Rattle.bim_text.specs.inner.NumberScanning.{front, HasRoom}
 use Rattle.bim_text.proofs.short.run_from.Given as goal
 
 abbrev pub invariant-loop-at : goal.invariant-loop-at

@@ -1,6 +1,6 @@
 use Rattle.std.proofs.Common.{◌≡◌, ◌+◌, ◌-◌, ◌^◌, ◌<◌, ◌≤◌, length, drop}
 use Rattle.p21_lexer.specs.Spelling.{value_after}
-use Rattle.bim_text.specs.NumberScanning.{front}
+use Rattle.bim_text.specs.inner.NumberScanning.{front}
 use Rattle.bim_text.proofs.small.small_digits.Given as goal
 
 abbrev pub invariant-loop-at : goal.invariant-loop-at

@@ -1,7 +1,7 @@
 use Rattle.std.proofs.Common.{◌≤◌, ◌≤ℤ◌, take, unsigned_abs, All}
 use Rattle.bim_model.specs.Points.{grid_limit}
 use Rattle.bim_model.specs.declared.geometry.Extent.{Extent}
-use Rattle.bucket_grid.specs.Axes.{low_on, high_on}
+use Rattle.bucket_grid.specs.inner.Axes.{low_on, high_on}
 use Rattle.bucket_grid.specs.ElementPlaces.{IsGridBox}
 use Rattle.bucket_grid.proofs.axis_cells.range_on.Given as goal
 

@@ -1,7 +1,7 @@
 use Rattle.std.proofs.Common.{All}
 use Rattle.bucket_grid.specs.Cells.{first_cell, last_cell}
 use Rattle.box_lanes.specs.BoxPlaces.{box_at}
-use Rattle.bucket_grid.specs.Axes.{low_on, high_on}
+use Rattle.bucket_grid.specs.inner.Axes.{low_on, high_on}
 use Rattle.bucket_grid.specs.Dealt.{IsSpan}
 use Rattle.bucket_grid.specs.BucketTable.{AreSpans}
 use Rattle.bucket_grid.proofs.axis_cells.spans_on.Given as goal

@@ -1,5 +1,5 @@
 use Rattle.std.proofs.Common.{◌≡◌, map, take}
-use Rattle.bucket_grid.specs.BucketSlots.{bucket_of}
+use Rattle.bucket_grid.specs.inner.BucketSlots.{bucket_of}
 use Rattle.bucket_grid.proofs.buckets.buckets_in.Given as goal
 
 abbrev pub invariant-loop-slot : goal.invariant-loop-slot

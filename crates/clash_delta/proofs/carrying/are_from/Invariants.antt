@@ -1,5 +1,5 @@
 use Rattle.std.proofs.Common.{take}
-use Rattle.clash_delta.specs.ElementNumbers.{AreFrom}
+use Rattle.clash_delta.specs.inner.ElementNumbers.{AreFrom}
 use Rattle.clash_delta.proofs.carrying.are_from.Given as goal
 
 abbrev pub invariant-loop-place : goal.invariant-loop-place

@@ -8,7 +8,7 @@ use Rattle.bucket_grid.specs.declared.bucket_table.Bucket.{Bucket}
 use Rattle.bucket_grid.specs.Subjects.{AreBoxes}
 use Rattle.bucket_grid.specs.BucketTable.{IsTable}
 use Rattle.bucket_grid.proofs.Zips.{zip_length}
-use Rattle.clash_delta.specs.ElementNumbers.{subjects, IsNumberBefore}
+use Rattle.clash_delta.specs.inner.ElementNumbers.{subjects, IsNumberBefore}
 use Rattle.clash_delta.proofs.Before.{members_inside, same_members}
 use Rattle.clash_delta.proofs.carrying.is_unmoved.Goals as goal
 

@@ -1,7 +1,7 @@
 use Rattle.std.proofs.Common.{length, ap, arith}
 use Rattle.bucket_grid.specs.ElementPlaces.{IsPlace}
 use Rattle.bucket_grid.proofs.Zips.{zip_length}
-use Rattle.clash_delta.specs.ElementNumbers.{subject_of}
+use Rattle.clash_delta.specs.inner.ElementNumbers.{subject_of}
 use Rattle.clash_delta.proofs.Keys.{not_below}
 use Rattle.clash_delta.proofs.former_numbers.first_not_below.Goals as goal
 

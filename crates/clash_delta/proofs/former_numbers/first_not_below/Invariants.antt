@@ -1,5 +1,5 @@
 use Rattle.std.proofs.Common.{◌≤◌, ◌-◌, length}
-use Rattle.clash_delta.specs.ElementNumbers.{subjects, subject_of, AllBelow}
+use Rattle.clash_delta.specs.inner.ElementNumbers.{subjects, subject_of, AllBelow}
 use Rattle.clash_delta.proofs.former_numbers.first_not_below.Given as goal
 
 abbrev pub invariant-loop-number : goal.invariant-loop-number

@@ -1,4 +1,4 @@
-use Rattle.clash_delta.specs.ElementNumbers.{subject_of}
+use Rattle.clash_delta.specs.inner.ElementNumbers.{subject_of}
 use Rattle.clash_delta.proofs.Keys.{same_key, other_key}
 use Rattle.clash_delta.proofs.former_numbers.is_same.Goals as goal
 

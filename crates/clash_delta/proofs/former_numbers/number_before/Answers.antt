@@ -5,7 +5,7 @@ use Rattle.bim_model.specs.Keys.{subjects_of, IsBelow}
 use Rattle.bim_model.proofs.Rising.{subjects_rise}
 use Rattle.bucket_grid.specs.ElementPlaces.{IsPlace}
 use Rattle.bucket_grid.proofs.Zips.{zip_length}
-use Rattle.clash_delta.specs.ElementNumbers.{subjects, subject_of}
+use Rattle.clash_delta.specs.inner.ElementNumbers.{subjects, subject_of}
 use Rattle.clash_delta.proofs.Keys.{none_before}
 use Rattle.clash_delta.proofs.former_numbers.number_before.Goals as goal
 use Rattle.clash_delta.proofs.former_numbers.number_before.Goals.{else-old-places-via-then-old-places+else-is_same, else-old-places-via-else-old-places}

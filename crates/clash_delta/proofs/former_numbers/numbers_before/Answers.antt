@@ -7,7 +7,7 @@ use Rattle.bim_model.proofs.Rising.{subjects_rise}
 use Rattle.bucket_grid.specs.ElementPlaces.{IsPlace}
 use Rattle.bucket_grid.specs.Subjects.{nobody}
 use Rattle.bucket_grid.proofs.Zips.{zip_length}
-use Rattle.clash_delta.specs.ElementNumbers.{subjects, subject_of, IsNumberBefore}
+use Rattle.clash_delta.specs.inner.ElementNumbers.{subjects, subject_of, IsNumberBefore}
 use Rattle.clash_delta.proofs.Before.{numbers_more, all_below_next}
 use Rattle.clash_delta.proofs.former_numbers.numbers_before.Goals as goal
 

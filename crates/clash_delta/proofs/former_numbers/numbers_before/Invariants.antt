@@ -1,6 +1,6 @@
 use Rattle.std.proofs.Common.{ℕ, ◌<◌, ◌≤◌, length, take}
 use Rattle.std.specs.List.{AllZip}
-use Rattle.clash_delta.specs.ElementNumbers.{subjects, subject_of, AllBelow, IsNumberBefore}
+use Rattle.clash_delta.specs.inner.ElementNumbers.{subjects, subject_of, AllBelow, IsNumberBefore}
 use Rattle.clash_delta.proofs.former_numbers.numbers_before.Given as goal
 
 abbrev pub invariant-loop-new : goal.invariant-loop-new

@@ -1,8 +1,8 @@
 use Rattle.std.proofs.Common.{◌≡◌, ◌∙◌, ap, ℕ, ℤ, ◌≤ℤ◌, ◌≤◌, unsigned_abs, subst}
 use Rattle.exact_arith.specs.Space.{Vector, minus, dot_of}
 use Rattle.tri_exact.specs.GridVectors.{at, straight}
-use Rattle.clearance.specs.TriangleCorners.{face_of}
-use Rattle.clearance.specs.Apart.{Apart}
+use Rattle.clearance.specs.inner.TriangleCorners.{face_of}
+use Rattle.clearance.specs.inner.Apart.{Apart}
 use Rattle.exact_arith.proofs.Ranges.{in_128, same_128}
 use Rattle.clearance.proofs.Gaps.{near_swaps}
 use Rattle.clearance.proofs.Parted.{parted}

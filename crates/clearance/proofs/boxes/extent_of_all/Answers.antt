@@ -2,7 +2,7 @@ use Rattle.std.proofs.Common.{◌≤◌, length, arith}
 use Rattle.std.proofs.lemmas.List.Elements.{All-more}
 use Rattle.bim_model.specs.declared.geometry.Triangle.{Triangle}
 use Rattle.bim_model.specs.Points.{shape_of}
-use Rattle.clearance.specs.BoxContainment.{InExtent}
+use Rattle.clearance.specs.inner.BoxContainment.{InExtent}
 use Rattle.clearance.proofs.OffBoxes.{widened}
 use Rattle.clearance.proofs.Lists.{finished}
 use Rattle.clearance.proofs.boxes.extent_of_all.Goals as goal

@@ -1,7 +1,7 @@
 use Rattle.std.proofs.Common.{All, take}
 use Rattle.bim_model.specs.declared.geometry.Triangle.{Triangle}
 use Rattle.bim_model.specs.Points.{shape_of}
-use Rattle.clearance.specs.BoxContainment.{InExtent, IsExtent}
+use Rattle.clearance.specs.inner.BoxContainment.{InExtent, IsExtent}
 use Rattle.clearance.proofs.boxes.extent_of_all.Given as goal
 
 abbrev pub invariant-loop-t : goal.invariant-loop-t

@@ -1,8 +1,8 @@
 use Rattle.std.proofs.Common.{Bool, IsTrue, ◌↔◌, ℕ}
 use Rattle.exact_arith.specs.Space.{Face}
-use Rattle.clearance.specs.EdgePairs.{EdgesNear}
+use Rattle.clearance.specs.inner.EdgePairs.{EdgesNear}
 use Rattle.clearance.proofs.RowsTest.{RowsNear, rows_yes, rows_no}
-use Rattle.clearance.specs.TriangleCorners.{face_of}
+use Rattle.clearance.specs.inner.TriangleCorners.{face_of}
 use Rattle.tri_exact.proofs.Choice.{first_yes, second_yes, third}
 use Rattle.clearance.proofs.edge_pairs.edges_near.Goals as goal
 

@@ -1,5 +1,5 @@
 use Rattle.std.proofs.Common.{◌≡◌, ℕ, ℤ, pos, ◌-ℤ◌, ◌+◌, ◌≤◌, unsigned_abs, inl, inr, subst}
-use Rattle.clearance.specs.Planes.{Clear}
+use Rattle.clearance.specs.inner.Planes.{Clear}
 use Rattle.exact_arith.proofs.Ranges.{Kept, value_kept, difference_kept, kept_128, in_128, zero_kept, fits_128, bounded}
 use Rattle.clearance.proofs.planes.is_beyond.Goals as goal
 

@@ -2,7 +2,7 @@ use Rattle.std.proofs.Common.{◌≤◌, length, arith}
 use Rattle.std.proofs.lemmas.List.Elements.{All-more}
 use Rattle.tri_exact.specs.GridVectors.{at, straight}
 use Rattle.bim_model.specs.declared.geometry.Triangle.{Triangle}
-use Rattle.clearance.specs.Projections.{ProjectsIn}
+use Rattle.clearance.specs.inner.Projections.{ProjectsIn}
 use Rattle.clearance.proofs.Lists.{finished}
 use Rattle.clearance.proofs.PartedLists.{projected_more}
 use Rattle.clearance.proofs.projections.clear_interval.Goals as goal

@@ -1,6 +1,6 @@
 use Rattle.std.proofs.Common.{take}
 use Rattle.tri_exact.specs.GridVectors.{at, straight}
-use Rattle.clearance.specs.Projections.{IsInterval, AllProjectIn}
+use Rattle.clearance.specs.inner.Projections.{IsInterval, AllProjectIn}
 use Rattle.clearance.proofs.projections.clear_interval.Given as goal
 
 abbrev pub invariant-loop-t : goal.invariant-loop-t

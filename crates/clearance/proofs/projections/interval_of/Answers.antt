@@ -2,7 +2,7 @@ use Rattle.std.proofs.Common.{◌≡◌, ◌∙◌, ap, ℤ, ◌≤ℤ◌, ◌�
 use Rattle.exact_arith.specs.Space.{Vector, Face, dot_of}
 use Rattle.tri_exact.specs.GridVectors.{at, straight}
 use Rattle.exact_arith.proofs.Ranges.{in_128, same_128}
-use Rattle.clearance.specs.Projections.{InInterval}
+use Rattle.clearance.specs.inner.Projections.{InInterval}
 use Rattle.clearance.proofs.projections.interval_of.Goals as goal
 
 -- a bound of a place, both of them in registers

@@ -1,4 +1,4 @@
-use Rattle.clearance.specs.Projections.{IsInterval}
+use Rattle.clearance.specs.inner.Projections.{IsInterval}
 use Rattle.clearance.proofs.projections.sampled_interval.Given as goal
 
 abbrev pub invariant-loop-k : goal.invariant-loop-k

@@ -2,7 +2,7 @@ use Rattle.std.proofs.Common.{◌≡◌, ◌↔◌, pos, ◌*ℤ◌, subst}
 use Rattle.exact_arith.specs.Space.{Vector}
 use Rattle.tri_exact.specs.GridVectors.{at}
 use Rattle.tri_exact.specs.Foot.{Inside}
-use Rattle.clearance.specs.TriangleCorners.{face_of}
+use Rattle.clearance.specs.inner.TriangleCorners.{face_of}
 use Rattle.tri_exact.proofs.Choice.{not_both}
 use Rattle.tri_exact.proofs.FootTest.{foot_yes, foot_no}
 use Rattle.exact_arith.proofs.Ranges.{value_kept, kept_128, renamed, squares_kept}

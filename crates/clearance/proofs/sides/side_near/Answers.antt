@@ -1,7 +1,7 @@
 use Rattle.std.proofs.Common.{ℤ, pos, ◌≤ℤ◌, ◌<ℤ◌, inl, inr, refl, arith}
 use Rattle.std.proofs.lemmas.Int.{ints}
 use Rattle.exact_arith.specs.Space.{dot_of, normal}
-use Rattle.clearance.specs.TriangleCorners.{face_of}
+use Rattle.clearance.specs.inner.TriangleCorners.{face_of}
 use Rattle.tri_exact.proofs.Choice.{not_both}
 use Rattle.exact_arith.proofs.Ranges.{value_kept, kept_128, renamed, at_most, above, zero_kept}
 use Rattle.clearance.proofs.sides.side_near.Goals as goal

@@ -1,5 +1,5 @@
 use Rattle.std.proofs.Common.{ℕ, ◌≡◌, ◌+◌, ◌<◌, ◌≤◌, arith, refl, subst}
-use Rattle.clearance.specs.TriangleRuns.{NoneInRow}
+use Rattle.clearance.specs.inner.TriangleRuns.{NoneInRow}
 use Rattle.clearance.proofs.Lists.{by_lt}
 use Rattle.clearance.proofs.Sixteenths.{none_in_rows}
 use Rattle.clearance.proofs.triangle_runs.all_near.Goals as goal

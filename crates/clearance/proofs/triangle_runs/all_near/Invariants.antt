@@ -1,5 +1,5 @@
 use Rattle.std.proofs.Common.{ℕ, ◌<◌}
-use Rattle.clearance.specs.TriangleRuns.{NoneInRow}
+use Rattle.clearance.specs.inner.TriangleRuns.{NoneInRow}
 use Rattle.clearance.proofs.triangle_runs.all_near.Given as goal
 
 abbrev pub invariant-loop-start : goal.invariant-loop-start

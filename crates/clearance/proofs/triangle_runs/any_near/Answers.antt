@@ -1,7 +1,7 @@
 use Rattle.std.proofs.Common.{subst}
 use Rattle.bim_model.specs.declared.geometry.Triangle.{Triangle}
 use Rattle.bim_model.specs.Points.{shape_of}
-use Rattle.clearance.specs.BoxContainment.{InExtent}
+use Rattle.clearance.specs.inner.BoxContainment.{InExtent}
 use Rattle.clearance.proofs.Gaps.{near_swaps}
 use Rattle.clearance.proofs.OffBoxes.{off_far}
 use Rattle.clearance.proofs.triangle_runs.any_near.Goals as goal

@@ -1,7 +1,7 @@
 use Rattle.std.proofs.Common.{◌≤◌, length, arith}
 use Rattle.std.proofs.lemmas.List.Elements.{All-more}
 use Rattle.bim_model.specs.declared.geometry.Triangle.{Triangle}
-use Rattle.clearance.specs.TriangleRuns.{Reaches}
+use Rattle.clearance.specs.inner.TriangleRuns.{Reaches}
 use Rattle.clearance.proofs.Parts.{reached_more, reached_next}
 use Rattle.clearance.proofs.Lists.{finished}
 use Rattle.clearance.proofs.triangle_runs.reached_extent.Goals as goal

@@ -1,6 +1,6 @@
 use Rattle.std.proofs.Common.{take}
-use Rattle.clearance.specs.BoxContainment.{IsExtent}
-use Rattle.clearance.specs.TriangleRuns.{AllReach}
+use Rattle.clearance.specs.inner.BoxContainment.{IsExtent}
+use Rattle.clearance.specs.inner.TriangleRuns.{AllReach}
 use Rattle.clearance.proofs.triangle_runs.reached_extent.Given as goal
 
 abbrev pub invariant-loop-t : goal.invariant-loop-t

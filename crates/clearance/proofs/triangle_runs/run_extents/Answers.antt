@@ -3,7 +3,7 @@ use Rattle.std.proofs.lemmas.List.{length-drop, length-set}
 use Rattle.std.proofs.lemmas.List.Elements.{All-drop}
 use Rattle.bim_model.specs.declared.geometry.Extent.{Extent}
 use Rattle.bim_model.specs.Points.{IsInGrid}
-use Rattle.clearance.specs.TriangleRuns.{RunsIn, AllReach}
+use Rattle.clearance.specs.inner.TriangleRuns.{RunsIn, AllReach}
 use Rattle.clearance.proofs.Parts.{few_left, empty_list, box_more, boxes_all}
 use Rattle.clearance.proofs.triangle_runs.run_extents.Goals as goal
 

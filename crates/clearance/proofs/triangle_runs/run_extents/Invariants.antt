@@ -1,7 +1,7 @@
 use Rattle.std.proofs.Common.{All, List, ◌≡◌, ◌+◌, ◌*◌, ◌≤◌, ◌++◌, length, take}
 use Rattle.bim_model.specs.declared.geometry.Extent.{Extent}
 use Rattle.bim_model.specs.Points.{IsInGrid}
-use Rattle.clearance.specs.TriangleRuns.{RunsIn}
+use Rattle.clearance.specs.inner.TriangleRuns.{RunsIn}
 use Rattle.clearance.proofs.triangle_runs.run_extents.Given as goal
 
 abbrev pub invariant-loop-k : goal.invariant-loop-k

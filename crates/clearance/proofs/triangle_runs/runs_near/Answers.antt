@@ -4,7 +4,7 @@ use Rattle.bim_model.specs.declared.geometry.Triangle.{Triangle}
 use Rattle.bim_model.specs.declared.geometry.Extent.{Extent}
 use Rattle.bim_model.specs.Points.{IsInGrid, shape_of}
 use Rattle.clearance.specs.Near.{NearAny}
-use Rattle.clearance.specs.TriangleRuns.{RunsIn, AllReach, Reaches}
+use Rattle.clearance.specs.inner.TriangleRuns.{RunsIn, AllReach, Reaches}
 use Rattle.tri_exact.proofs.Choice.{not_both}
 use Rattle.clearance.proofs.Gaps.{near_swaps}
 use Rattle.clearance.proofs.OffBoxes.{off_far}

@@ -2,7 +2,7 @@ use Rattle.std.proofs.Common.{All, List, drop}
 use Rattle.bim_model.specs.declared.geometry.Triangle.{Triangle}
 use Rattle.bim_model.specs.Points.{IsInGrid}
 use Rattle.clearance.specs.Near.{NearAny}
-use Rattle.clearance.specs.TriangleRuns.{RunsIn}
+use Rattle.clearance.specs.inner.TriangleRuns.{RunsIn}
 use Rattle.clearance.proofs.Parts.{IsLeft}
 use Rattle.clearance.proofs.triangle_runs.runs_near.Given as goal
 

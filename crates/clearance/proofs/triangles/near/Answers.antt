@@ -3,7 +3,7 @@ use Rattle.bim_model.specs.Points.{shape_of}
 use Rattle.bim_model.specs.declared.geometry.Triangle.{Triangle}
 use Rattle.bim_model.specs.declared.geometry.Extent.{Extent}
 use Rattle.clearance.specs.Near.{Near}
-use Rattle.clearance.specs.BoxContainment.{InExtent, IsOff}
+use Rattle.clearance.specs.inner.BoxContainment.{InExtent, IsOff}
 use Rattle.clearance.proofs.OffBoxes.{off_far}
 use Rattle.clearance.proofs.Decided.{triangles_told}
 use Rattle.clearance.proofs.triangles.near.Goals as goal

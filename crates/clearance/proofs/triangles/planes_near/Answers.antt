@@ -1,8 +1,8 @@
 use Rattle.std.proofs.Common.{◌≡◌, ℕ, ℤ, inl, inr, refl, subst}
 use Rattle.exact_arith.specs.Space.{Face}
 use Rattle.clearance.specs.Near.{FacesNear}
-use Rattle.clearance.specs.Planes.{IsClear, IsPlane, IsOver}
-use Rattle.clearance.specs.TriangleCorners.{face_of}
+use Rattle.clearance.specs.inner.Planes.{IsClear, IsPlane, IsOver}
+use Rattle.clearance.specs.inner.TriangleCorners.{face_of}
 use Rattle.clearance.specs.declared.planes.Plane.{Plane}
 use Rattle.clearance.specs.declared.planes.Heights.{Heights}
 use Rattle.tri_exact.proofs.Choice.{not_both}

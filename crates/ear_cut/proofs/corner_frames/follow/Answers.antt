@@ -1,6 +1,6 @@
 use Rattle.std.proofs.Common.{subst, Option}
 use Rattle.ear_cut.specs.declared.polygon_view.View.{View}
-use Rattle.ear_cut.specs.CornerFrames.{AreFramesBefore}
+use Rattle.ear_cut.specs.inner.CornerFrames.{AreFramesBefore}
 use Rattle.ear_cut.proofs.Round.{round_before}
 use Rattle.ear_cut.proofs.corner_frames.follow.Goals as goal
 

@@ -1,5 +1,5 @@
 use Rattle.std.proofs.Common.{◌*◌}
-use Rattle.ear_cut.specs.CornerFrames.{run, IsRound}
+use Rattle.ear_cut.specs.inner.CornerFrames.{run, IsRound}
 use Rattle.ear_cut.proofs.corner_frames.frame_round.Given as goal
 
 abbrev pub invariant-loop-i : goal.invariant-loop-i

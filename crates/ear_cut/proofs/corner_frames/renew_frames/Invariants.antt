@@ -1,6 +1,6 @@
 use Rattle.std.proofs.Common.{◌+◌, ◌*◌, ◌<◌, ℕ}
 use Rattle.std.specs.Prelude.{slice_index_or}
-use Rattle.ear_cut.specs.CornerFrames.{run, point_frame, IsRound}
+use Rattle.ear_cut.specs.inner.CornerFrames.{run, point_frame, IsRound}
 use Rattle.ear_cut.proofs.corner_frames.renew_frames.Given as goal
 
 abbrev pub invariant-loop-b : goal.invariant-loop-b

@@ -2,7 +2,7 @@ use Rattle.std.proofs.Common.{◌∙◌, ap, sym, ℕ, length, Some, None, Optio
 use Rattle.std.specs.Prelude.{slice_index_or}
 use Rattle.ear_cut.specs.Corners.{is_straight, angle_of, turn_at}
 use Rattle.ear_cut.specs.Removal.{choice, first_from, or_else, is_ear}
-use Rattle.ear_cut.specs.EarNotes.{blank}
+use Rattle.ear_cut.specs.inner.EarNotes.{blank}
 use Rattle.ear_cut.proofs.Search.{first_is, first_same}
 use Rattle.ear_cut.proofs.corner_notes.choice.Goals as goal
 

@@ -3,7 +3,7 @@ use Rattle.std.specs.Prelude.{slice_index_or}
 use Rattle.std.proofs.lemmas.Bool.{cases_lt}
 use Rattle.std.proofs.lemmas.List.{get_or_default}
 use Rattle.ear_cut.specs.declared.corner_frames.Frame.{Frame}
-use Rattle.ear_cut.specs.CornerFrames.{run, point_frame, IsIn, is_apart}
+use Rattle.ear_cut.specs.inner.CornerFrames.{run, point_frame, IsIn, is_apart}
 use Rattle.ear_cut.proofs.Round.{apart_run}
 use Rattle.ear_cut.proofs.corner_notes.clear_to.Goals as goal
 

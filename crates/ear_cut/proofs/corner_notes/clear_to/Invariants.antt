@@ -2,7 +2,7 @@ use Rattle.std.proofs.Common.{◌≡◌, ◌*◌, ◌<◌, ℕ, true, Some, leng
 use Rattle.std.specs.Prelude.{slice_index_or}
 use Rattle.ear_cut.specs.Corners.{nobody}
 use Rattle.ear_cut.specs.Removal.{is_free}
-use Rattle.ear_cut.specs.CornerFrames.{run}
+use Rattle.ear_cut.specs.inner.CornerFrames.{run}
 use Rattle.ear_cut.proofs.corner_notes.clear_to.Given as goal
 
 abbrev pub invariant-loop-b : goal.invariant-loop-b

@@ -1,7 +1,7 @@
 use Rattle.std.proofs.Common.{◌≡◌, ◌<◌, ℕ, false, Some}
 use Rattle.ear_cut.specs.Corners.{turn_at}
 use Rattle.ear_cut.specs.Removal.{is_ear}
-use Rattle.ear_cut.specs.EarNotes.{IsNoted}
+use Rattle.ear_cut.specs.inner.EarNotes.{IsNoted}
 use Rattle.ear_cut.proofs.corner_notes.first_ear.Given as goal
 
 abbrev pub invariant-loop-i : goal.invariant-loop-i

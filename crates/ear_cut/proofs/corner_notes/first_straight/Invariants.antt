@@ -1,7 +1,7 @@
 use Rattle.std.proofs.Common.{◌≡◌, ◌<◌, ℕ, false}
 use Rattle.std.specs.Prelude.{slice_index_or}
 use Rattle.ear_cut.specs.Corners.{is_straight}
-use Rattle.ear_cut.specs.EarNotes.{blank}
+use Rattle.ear_cut.specs.inner.EarNotes.{blank}
 use Rattle.ear_cut.proofs.corner_notes.first_straight.Given as goal
 
 abbrev pub invariant-loop-i : goal.invariant-loop-i

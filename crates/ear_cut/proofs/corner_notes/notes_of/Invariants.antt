@@ -1,6 +1,6 @@
 use Rattle.std.proofs.Common.{◌≡◌, ℕ, ◌<◌, length}
 use Rattle.std.specs.Prelude.{slice_index_or}
-use Rattle.ear_cut.specs.EarNotes.{blank, fresh}
+use Rattle.ear_cut.specs.inner.EarNotes.{blank, fresh}
 use Rattle.ear_cut.proofs.corner_notes.notes_of.Given as goal
 
 abbrev pub invariant-loop-i : goal.invariant-loop-i

@@ -5,7 +5,7 @@ use Rattle.ear_cut.specs.declared.corners.Angle.{Angle}
 use Rattle.ear_cut.specs.declared.corners.Angle.TheVariants.{Convex}
 use Rattle.ear_cut.specs.Corners.{InGrid, turn_at, nobody, angle_of}
 use Rattle.ear_cut.specs.Removal.{is_free, is_ear_at}
-use Rattle.ear_cut.specs.EarNotes.{IsClearTo, tells_at}
+use Rattle.ear_cut.specs.inner.EarNotes.{IsClearTo, tells_at}
 use Rattle.ear_cut.proofs.Closed.{turn_in_grid}
 use Rattle.ear_cut.proofs.Search.{clear_tells, open_convex}
 use Rattle.ear_cut.proofs.corner_notes.searched.Goals as goal

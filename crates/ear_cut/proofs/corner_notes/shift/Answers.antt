@@ -1,7 +1,7 @@
 use Rattle.std.proofs.Common.{◌∙◌, ◌<◌, ap, set, length, get_or, arith}
 use Rattle.std.proofs.lemmas.List.{get_or_default}
 use Rattle.std.proofs.lemmas.List.Edits.{map_over_more}
-use Rattle.ear_cut.specs.EarNotes.{shifted, blank}
+use Rattle.ear_cut.specs.inner.EarNotes.{shifted, blank}
 use Rattle.ear_cut.proofs.corner_notes.shift.Goals as goal
 
 pub loop-note-preserved : goal.loop-note-preserved

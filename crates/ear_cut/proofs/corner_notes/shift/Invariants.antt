@@ -1,5 +1,5 @@
 use Rattle.std.proofs.Common.{◌≡◌, ◌++◌, map, take, drop}
-use Rattle.ear_cut.specs.EarNotes.{shifted}
+use Rattle.ear_cut.specs.inner.EarNotes.{shifted}
 use Rattle.ear_cut.proofs.corner_notes.shift.Given as goal
 
 abbrev pub invariant-loop-note : goal.invariant-loop-note

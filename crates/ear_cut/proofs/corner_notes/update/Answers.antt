@@ -1,6 +1,6 @@
 use Rattle.std.proofs.Common.{◌∙◌, ap, sym, subst, List, set}
 use Rattle.ear_cut.specs.declared.corner_notes.Note.{Note}
-use Rattle.ear_cut.specs.EarNotes.{IsNoted, fresh}
+use Rattle.ear_cut.specs.inner.EarNotes.{IsNoted, fresh}
 use Rattle.ear_cut.proofs.Taken.{updated}
 use Rattle.ear_cut.proofs.corner_notes.update.Goals as goal
 

@@ -1,8 +1,8 @@
 use Rattle.std.proofs.Common.{◌∙◌, ap, rules, w64, FitsSigned}
 use Rattle.std.proofs.lemmas.Int.{to_z-of_z}
 use Rattle.ear_cut.specs.PolygonViews.{Spot, area}
-use Rattle.ear_cut.specs.Registers.{as_spot}
-use Rattle.ear_cut.specs.Fans.{spot_at}
+use Rattle.ear_cut.specs.inner.Registers.{as_spot}
+use Rattle.ear_cut.specs.inner.Fans.{spot_at}
 use Rattle.ear_cut.proofs.fans.area_at.Goals as goal
 
 pub returns : goal.returns

@@ -3,7 +3,7 @@ use Rattle.ear_cut.specs.declared.corners.Corner.{Corner}
 use Rattle.ear_cut.specs.declared.ears.Ear.{Ear}
 use Rattle.ear_cut.specs.Corners.{turn_at}
 use Rattle.ear_cut.specs.Removal.{is_turned_over, ear_of, cut_by}
-use Rattle.ear_cut.specs.Fans.{IsFan}
+use Rattle.ear_cut.specs.inner.Fans.{IsFan}
 use Rattle.ear_cut.proofs.Steps.{behind, step_on, last_one}
 use Rattle.ear_cut.proofs.Fanned.{all_convex, first_turn, last_turn, first_goes, without_first}
 use Rattle.ear_cut.proofs.fans.fan_of.Goals as goal

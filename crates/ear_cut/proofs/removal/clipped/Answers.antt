@@ -6,8 +6,8 @@ use Rattle.ear_cut.specs.declared.corners.Turn.{Turn}
 use Rattle.ear_cut.specs.declared.ears.Ear.{Ear}
 use Rattle.ear_cut.specs.Corners.{InGrid, turn_at, angle_of}
 use Rattle.ear_cut.specs.Removal.{is_turned_over, ear_of, cut_by}
-use Rattle.ear_cut.specs.EarNotes.{IsNoted, IsRemoval}
-use Rattle.ear_cut.specs.CornerFrames.{AreFramesIn}
+use Rattle.ear_cut.specs.inner.EarNotes.{IsNoted, IsRemoval}
+use Rattle.ear_cut.specs.inner.CornerFrames.{AreFramesIn}
 use Rattle.ear_cut.proofs.Closed.{turn_in_grid}
 use Rattle.ear_cut.proofs.Steps.{behind, step_on, step_stuck, last_one, last_stuck, behind_nothing}
 use Rattle.ear_cut.proofs.removal.clipped.Goals as goal

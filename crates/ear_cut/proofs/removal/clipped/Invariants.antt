@@ -1,8 +1,8 @@
 use Rattle.std.proofs.Common.{◌≡◌, ◌+◌, ◌-◌, length}
 use Rattle.ear_cut.specs.Corners.{AreInGrid}
 use Rattle.ear_cut.specs.Removal.{cut_by}
-use Rattle.ear_cut.specs.EarNotes.{IsNoted}
-use Rattle.ear_cut.specs.CornerFrames.{AreFramesIn}
+use Rattle.ear_cut.specs.inner.EarNotes.{IsNoted}
+use Rattle.ear_cut.specs.inner.CornerFrames.{AreFramesIn}
 use Rattle.ear_cut.proofs.Steps.{behind}
 use Rattle.ear_cut.proofs.removal.clipped.Given as goal
 

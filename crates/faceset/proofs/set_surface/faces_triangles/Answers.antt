@@ -2,7 +2,7 @@ use Rattle.std.proofs.Common.{rules, option_copied, List, sum_by, subst, ap, ◌
 use Rattle.p21_values.specs.declared.value.Value21.{Value21}
 use Rattle.p21_values.specs.Attributes.{led_to}
 use Rattle.faceset.specs.FaceSets.{IsCut, Joined, face_count}
-use Rattle.faceset.specs.Cuts.{IsLoose}
+use Rattle.faceset.specs.inner.Cuts.{IsLoose}
 use Rattle.p21_values.proofs.Turns.{turn, ended}
 use Rattle.faceset.proofs.FaceLists.{any_here, joined_more, count_more}
 use Rattle.faceset.proofs.set_surface.faces_triangles.Goals as goal

@@ -1,7 +1,7 @@
 use Rattle.std.proofs.Common.{option_copied, arith}
 use Rattle.std.proofs.lemmas.Bool.{MatchBool-at_true, MatchBool-at_false}
 use Rattle.std.proofs.lemmas.List.Elements.{All-more}
-use Rattle.faceset.specs.FaceNumbers.{IsStuckFace}
+use Rattle.faceset.specs.inner.FaceNumbers.{IsStuckFace}
 use Rattle.faceset.proofs.StuckFaces.{first_least, none_at_all}
 use Rattle.faceset.proofs.stuck.first_in.Goals as goal
 

@@ -1,5 +1,5 @@
 use Rattle.std.proofs.Common.{take, option_copied, All}
-use Rattle.faceset.specs.FaceNumbers.{IsStuckFace}
+use Rattle.faceset.specs.inner.FaceNumbers.{IsStuckFace}
 use Rattle.faceset.proofs.stuck.first_in.Given as goal
 
 abbrev pub invariant-loop-id : goal.invariant-loop-id

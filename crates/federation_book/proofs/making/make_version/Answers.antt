@@ -11,7 +11,7 @@ use Rattle.book_history.proofs.States.{within}
 use Rattle.federation_book.specs.declared.project.Project.{Project}
 use Rattle.federation_book.specs.declared.state.State.{State}
 use Rattle.federation_book.specs.KeptProjects.{KeepsProject, settings_of}
-use Rattle.federation_book.specs.NextVersions.{IsNext}
+use Rattle.federation_book.specs.inner.NextVersions.{IsNext}
 use Rattle.federation_book.proofs.Accepting.{none_of, journal_room, triangles_room, text_room, kept_after, kept_asked}
 use Rattle.federation_book.proofs.Taking.{kept_numbered}
 use Rattle.federation_book.proofs.Outcomes.{kept_still}

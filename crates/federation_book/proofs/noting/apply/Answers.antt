@@ -1,7 +1,7 @@
 use Rattle.std.proofs.Common.{Option, IsSome, IfSome, subst}
 use Rattle.std.proofs.lemmas.Bool.{false≢true}
 use Rattle.bim_model.specs.declared.guid.Guid.{Guid}
-use Rattle.federation_book.specs.Noting.{AreGuids, Fits}
+use Rattle.federation_book.specs.inner.Noting.{AreGuids, Fits}
 use Rattle.federation_book.proofs.Applied.{post_topic_applied, put_topic_applied, delete_topic_applied, clash_applied}
 use Rattle.federation_book.proofs.Noted.{fits_further}
 use Rattle.federation_book.proofs.noting.apply.Goals as goal

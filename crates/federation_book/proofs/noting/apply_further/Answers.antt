@@ -1,5 +1,5 @@
 use Rattle.std.proofs.Common.{subst}
-use Rattle.federation_book.specs.Noting.{Fits}
+use Rattle.federation_book.specs.inner.Noting.{Fits}
 use Rattle.federation_book.proofs.Applied.{post_comment_applied, put_comment_applied, delete_comment_applied, post_view_applied, delete_view_applied}
 use Rattle.federation_book.proofs.Noted.{further_only}
 use Rattle.federation_book.proofs.noting.apply_further.Goals as goal

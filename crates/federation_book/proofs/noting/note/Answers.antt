@@ -9,7 +9,7 @@ use Rattle.book_history.specs.Requests.{entry_of}
 use Rattle.federation_book.specs.declared.project.Project.{Project}
 use Rattle.federation_book.specs.declared.state.State.{State}
 use Rattle.federation_book.specs.KeptProjects.{KeepsProject, settings_of}
-use Rattle.federation_book.specs.Noting.{Fits}
+use Rattle.federation_book.specs.inner.Noting.{Fits}
 use Rattle.federation_book.proofs.Accepting.{journal_room, text_room, kept_after, kept_asked}
 use Rattle.federation_book.proofs.Noted.{noted_refused, noted_done, store_none, made_room, fits_note, noted_keeps, no_triangles}
 use Rattle.federation_book.proofs.Outcomes.{kept_still}

@@ -1,5 +1,5 @@
 use Rattle.std.proofs.Common.{◌≡◌, drop}
-use Rattle.http_frame.specs.Facts.{values_at}
+use Rattle.http_frame.specs.inner.Facts.{values_at}
 use Rattle.http_frame.proofs.facts.first_named.Given as goal
 
 abbrev pub invariant-loop-header : goal.invariant-loop-header

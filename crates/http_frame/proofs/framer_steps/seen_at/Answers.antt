@@ -1,7 +1,7 @@
 use Rattle.std.proofs.Common.{◌≡◌, ◌≤◌, ℕ, List, length, take, drop, sym, ap, ◌∙◌, subst}
 use Rattle.std.specs.Prelude.{IfOk}
 use Rattle.http_frame.specs.Heads.{front}
-use Rattle.http_frame.specs.RequestHeads.{IsSeen}
+use Rattle.http_frame.specs.inner.RequestHeads.{IsSeen}
 use Rattle.http_frame.specs.Watched.{IsWatch}
 use Rattle.http_frame.proofs.framer_steps.seen_at.Goals as goal
 

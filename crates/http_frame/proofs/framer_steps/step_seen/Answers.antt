@@ -2,7 +2,7 @@ use Rattle.std.proofs.Common.{drop, ◌+◌, subst, sym}
 use Rattle.http_frame.specs.declared.seen.Seen.{Seen}
 use Rattle.http_frame.specs.declared.stage.Pending.{Pending}
 use Rattle.http_frame.specs.declared.stage.Stage.TheVariants.{Head, Body}
-use Rattle.http_frame.specs.RequestHeads.{IsSeen}
+use Rattle.http_frame.specs.inner.RequestHeads.{IsSeen}
 use Rattle.http_frame.specs.FramerStages.{pending_of, Steps, IsSafe}
 use Rattle.http_frame.proofs.Standing.{steps_after, more_head, fault_head, good_stands}
 use Rattle.http_frame.proofs.Keeping.{seen_safe, good_safe}

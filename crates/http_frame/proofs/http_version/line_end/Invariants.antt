@@ -1,6 +1,6 @@
 use Rattle.std.proofs.Common.{◌≡◌, drop, take}
 use Rattle.http_frame.specs.Heads.{line_at}
-use Rattle.http_frame.specs.HeadLines.{put_before}
+use Rattle.http_frame.specs.inner.HeadLines.{put_before}
 use Rattle.http_frame.proofs.http_version.line_end.Given as goal
 
 abbrev pub invariant-loop-at : goal.invariant-loop-at

@@ -1,5 +1,5 @@
 use Rattle.std.proofs.Common.{sym, ◌∙◌, ap, drop}
-use Rattle.http_frame.specs.HeadLines.{begins_blank}
+use Rattle.http_frame.specs.inner.HeadLines.{begins_blank}
 use Rattle.http_frame.proofs.Versions.{blank_step, at_line, at_end}
 use Rattle.http_frame.proofs.http_version.line_start.Goals as goal
 

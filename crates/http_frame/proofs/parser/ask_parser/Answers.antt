@@ -7,7 +7,7 @@ use Rattle.httparse.specs.declared.Status.TheVariants.{Partial}
 use Rattle.httparse.specs.declared.spans.RequestSpans.{RequestSpans}
 use Rattle.httparse.specs.Outcome.{OnPartial}
 use Rattle.httparse.specs.Grammar.{HasNoRequest, MayBecomeRequest}
-use Rattle.http_frame.specs.Judged.{is_crowded}
+use Rattle.http_frame.specs.inner.Judged.{is_crowded}
 use Rattle.http_frame.proofs.Room.{never_too_many}
 use Rattle.http_frame.proofs.parser.ask_parser.Goals as goal
 

@@ -1,6 +1,6 @@
 use Rattle.std.proofs.Common.{List, subst, sym}
 use Rattle.httparse.specs.declared.spans.HeaderSpan.{HeaderSpan}
-use Rattle.http_frame.specs.RequestHeads.{IsPlaced}
+use Rattle.http_frame.specs.inner.RequestHeads.{IsPlaced}
 use Rattle.http_frame.proofs.Seeing.{placed, whole_seen}
 use Rattle.http_frame.proofs.seen.whole.Goals as goal
 

@@ -2,7 +2,7 @@ use Rattle.std.proofs.Common.{List, Option, None, refl, sym, subst, ◌∙◌}
 use Rattle.p21_values.specs.declared.value.Value21.{Value21}
 use Rattle.ifc_schema.specs.declared.flaw.Flaw.{Flaw}
 use Rattle.ifc_schema.specs.Flaws.{LeafFlaw, ListFlaw}
-use Rattle.ifc_schema.specs.SoundValues.{IsSound, Passes}
+use Rattle.ifc_schema.specs.inner.SoundValues.{IsSound, Passes}
 use Rattle.ifc_schema.proofs.Firsts.{no_flaw}
 use Rattle.ifc_schema.proofs.SoundRows.{passes_more, passes_on, passes_weaker, flawed_behind}
 use Rattle.ifc_schema.proofs.flaw.lists_flaw.Goals as goal

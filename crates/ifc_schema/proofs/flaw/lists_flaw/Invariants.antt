@@ -1,6 +1,6 @@
 use Rattle.std.proofs.Common.{length, None}
 use Rattle.ifc_schema.specs.Flaws.{LeafFlaw, ListFlaw}
-use Rattle.ifc_schema.specs.SoundValues.{Passes}
+use Rattle.ifc_schema.specs.inner.SoundValues.{Passes}
 use Rattle.ifc_schema.proofs.flaw.lists_flaw.Given as goal
 
 abbrev pub invariant-loop-row : goal.invariant-loop-row

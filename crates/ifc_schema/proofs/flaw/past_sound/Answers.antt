@@ -1,5 +1,5 @@
 use Rattle.std.proofs.Common.{sym, ◌∙◌}
-use Rattle.ifc_schema.specs.SoundValues.{IsSound}
+use Rattle.ifc_schema.specs.inner.SoundValues.{IsSound}
 use Rattle.ifc_schema.proofs.SoundRows.{passes_more}
 use Rattle.ifc_schema.proofs.flaw.past_sound.Goals as goal
 

@@ -1,5 +1,5 @@
 use Rattle.std.proofs.Common.{length}
-use Rattle.ifc_schema.specs.SoundValues.{IsSound, Passes}
+use Rattle.ifc_schema.specs.inner.SoundValues.{IsSound, Passes}
 use Rattle.ifc_schema.proofs.flaw.past_sound.Given as goal
 
 abbrev pub invariant-loop-row : goal.invariant-loop-row

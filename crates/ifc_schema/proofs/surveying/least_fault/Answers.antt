@@ -1,5 +1,5 @@
 use Rattle.std.proofs.Common.{length, ap, arith, below_more, sym, ◌∙◌}
-use Rattle.ifc_schema.specs.InstanceFaults.{CheckedAt}
+use Rattle.ifc_schema.specs.inner.InstanceFaults.{CheckedAt}
 use Rattle.ifc_schema.proofs.Listing.{all_checked, checked_some, checked_none}
 use Rattle.ifc_schema.proofs.surveying.least_fault.Goals as goal
 

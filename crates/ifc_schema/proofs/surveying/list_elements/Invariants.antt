@@ -1,5 +1,5 @@
 use Rattle.ifc_schema.specs.Surveys.{Lists, IsModelElement}
-use Rattle.ifc_schema.specs.InstanceFaults.{Below}
+use Rattle.ifc_schema.specs.inner.InstanceFaults.{Below}
 use Rattle.ifc_schema.proofs.surveying.list_elements.Given as goal
 
 abbrev pub invariant-loop-at : goal.invariant-loop-at

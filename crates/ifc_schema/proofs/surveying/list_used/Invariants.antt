@@ -1,6 +1,6 @@
 use Rattle.ifc_schema.specs.Used.{Used}
 use Rattle.ifc_schema.specs.Surveys.{Lists}
-use Rattle.ifc_schema.specs.InstanceFaults.{Below}
+use Rattle.ifc_schema.specs.inner.InstanceFaults.{Below}
 use Rattle.ifc_schema.proofs.surveying.list_used.Given as goal
 
 abbrev pub invariant-loop-at : goal.invariant-loop-at

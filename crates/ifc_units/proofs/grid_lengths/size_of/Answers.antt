@@ -2,7 +2,7 @@ use Rattle.std.proofs.Common.{◌≡◌, ℕ, ◌*◌, ◌^◌, ◌≤◌, pos, 
 use Rattle.ifc_units.specs.declared.length_error.GridFault.{GridFault}
 use Rattle.ifc_units.specs.declared.length_error.GridFault.TheVariants.{TooFar}
 use Rattle.ifc_units.specs.declared.sizes.TheConstants.{UNITS, MOST}
-use Rattle.ifc_units.specs.RoundedLengths.{IsSizeOf}
+use Rattle.ifc_units.specs.inner.RoundedLengths.{IsSizeOf}
 use Rattle.std.proofs.lemmas.Int.{ints}
 use Rattle.ifc_units.proofs.Signs.{whole_is, part_is, part_of}
 use Rattle.ifc_units.proofs.grid_lengths.size_of.Goals as goal

@@ -6,7 +6,7 @@ use Rattle.ifc_units.specs.declared.length_error.GridFault.TheVariants.{OffGrid,
 use Rattle.bim_text.proofs.Powers.{signed_size}
 use Rattle.ifc_units.specs.declared.sizes.TheConstants.{UNITS, MOST}
 use Rattle.ifc_units.specs.Grid.{IsGridNumber}
-use Rattle.ifc_units.specs.RoundedLengths.{IsSizeOf}
+use Rattle.ifc_units.specs.inner.RoundedLengths.{IsSizeOf}
 use Rattle.ifc_units.proofs.Signs.{times_left, grid_ok, grid_off, grid_far}
 use Rattle.ifc_units.proofs.grid_lengths.to_grid.Goals as goal
 

@@ -3,7 +3,7 @@ use Rattle.std.specs.List.{Any}
 use Rattle.ifc_schema.specs.Surveys.{used_ids}
 use Rattle.ifc_elements.specs.Finding.{Finds}
 use Rattle.model_build.specs.Faces.{HasManyCorners}
-use Rattle.model_build.specs.Outcomes.{HaveFewCorners}
+use Rattle.model_build.specs.inner.Outcomes.{HaveFewCorners}
 use Rattle.model_build.proofs.ManyCorners.{corners_stage}
 use Rattle.model_build.proofs.checks.corners_fault.Goals as goal
 

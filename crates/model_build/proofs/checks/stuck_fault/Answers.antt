@@ -1,8 +1,8 @@
 use Rattle.std.proofs.Common.{ℕ, List, Option, subst}
 use Rattle.ifc_schema.specs.Surveys.{used_ids}
-use Rattle.ifc_instances.specs.Least.{IsLeast, LeastOf}
+use Rattle.ifc_instances.specs.inner.Least.{IsLeast, LeastOf}
 use Rattle.model_build.specs.FaultyInstances.{ShownBy}
-use Rattle.model_build.specs.Outcomes.{ShowsStuckSet}
+use Rattle.model_build.specs.inner.Outcomes.{ShowsStuckSet}
 use Rattle.model_build.proofs.StuckFaces.{stuck_stage, none_stuck}
 use Rattle.model_build.proofs.checks.stuck_fault.Goals as goal
 

@@ -2,7 +2,7 @@ use Rattle.std.proofs.Common.{ℕ, List, Contains, subst}
 use Rattle.ifc_schema.specs.Surveys.{used_ids}
 use Rattle.model_build.specs.StageFaults.{LeastFault}
 use Rattle.model_build.specs.LengthFaults.{LengthFault}
-use Rattle.model_build.specs.Outcomes.{AreMeasured}
+use Rattle.model_build.specs.inner.Outcomes.{AreMeasured}
 use Rattle.model_build.proofs.StagesClear.{measured_fault}
 use Rattle.model_build.proofs.FaultsInOrder.{length_first, corners_first}
 use Rattle.model_build.proofs.stages.measured.Goals as goal

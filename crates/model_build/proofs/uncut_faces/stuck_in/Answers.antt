@@ -1,7 +1,7 @@
 use Rattle.std.proofs.Common.{◌∙◌, sym}
 use Rattle.faceset.specs.FaceSets.{HasStuck}
-use Rattle.ifc_instances.specs.Least.{LeastOf}
-use Rattle.model_build.specs.Outcomes.{ShowsStuckSet}
+use Rattle.ifc_instances.specs.inner.Least.{LeastOf}
+use Rattle.model_build.specs.inner.Outcomes.{ShowsStuckSet}
 use Rattle.ifc_elements.proofs.PointsOnGrid.{listed_grid}
 use Rattle.model_build.proofs.StuckFaces.{IsFound, no_points, stuck_least, ok_by}
 use Rattle.model_build.proofs.uncut_faces.stuck_in.Goals as goal

@@ -1,7 +1,7 @@
 use Rattle.std.proofs.Common.{rules, ◌+◌, take, Option, ℕ, sym, subst}
-use Rattle.ifc_instances.specs.Least.{LeastOf}
+use Rattle.ifc_instances.specs.inner.Least.{LeastOf}
 use Rattle.model_build.specs.FaultyInstances.{ShownBy}
-use Rattle.model_build.specs.Showing.{MapShows}
+use Rattle.model_build.specs.inner.Showing.{MapShows}
 use Rattle.model_build.proofs.LeastOfParts.{shown_none, shown_more, shown_all}
 use Rattle.model_build.proofs.unsupported.least_in_mapped.Goals as goal
 

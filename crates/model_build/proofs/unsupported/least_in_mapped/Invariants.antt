@@ -1,7 +1,7 @@
 use Rattle.std.proofs.Common.{take}
-use Rattle.ifc_instances.specs.Least.{LeastOf}
+use Rattle.ifc_instances.specs.inner.Least.{LeastOf}
 use Rattle.model_build.specs.FaultyInstances.{ShownBy}
-use Rattle.model_build.specs.Showing.{MapShows}
+use Rattle.model_build.specs.inner.Showing.{MapShows}
 use Rattle.model_build.proofs.unsupported.least_in_mapped.Given as goal
 
 abbrev pub invariant-loop-id : goal.invariant-loop-id

@@ -2,8 +2,8 @@ use Rattle.std.proofs.Common.{◌≡◌, [], ◌∷◌, ◌++◌, true, List, Op
 use Rattle.p21_values.specs.declared.value.Value21.{Value21}
 use Rattle.p21_values.proofs.Turns.{ended}
 use Rattle.ifc_elements.specs.Items.{is_mapped_item}
-use Rattle.ifc_instances.specs.Least.{LeastOf}
-use Rattle.model_build.specs.Showing.{HasInner}
+use Rattle.ifc_instances.specs.inner.Least.{LeastOf}
+use Rattle.model_build.specs.inner.Showing.{HasInner}
 use Rattle.model_build.proofs.OtherItems.{leads_none, leads_more}
 use Rattle.model_build.proofs.unsupported.least_inner.Goals as goal
 

@@ -2,8 +2,8 @@ use Rattle.std.proofs.Common.{◌≡◌, [], ◌∷◌, ◌++◌, false, List, O
 use Rattle.p21_values.specs.declared.value.Value21.{Value21}
 use Rattle.p21_values.proofs.Turns.{ended}
 use Rattle.ifc_elements.specs.Items.{is_item}
-use Rattle.ifc_instances.specs.Least.{LeastOf}
-use Rattle.model_build.specs.Showing.{HasOther}
+use Rattle.ifc_instances.specs.inner.Least.{LeastOf}
+use Rattle.model_build.specs.inner.Showing.{HasOther}
 use Rattle.model_build.proofs.OtherItems.{leads_none, leads_more}
 use Rattle.model_build.proofs.unsupported.least_other.Goals as goal
 

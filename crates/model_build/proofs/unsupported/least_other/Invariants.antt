@@ -1,5 +1,5 @@
-use Rattle.ifc_instances.specs.Least.{LeastOf}
-use Rattle.model_build.specs.Showing.{HasOther}
+use Rattle.ifc_instances.specs.inner.Least.{LeastOf}
+use Rattle.model_build.specs.inner.Showing.{HasOther}
 use Rattle.model_build.proofs.unsupported.least_other.Given as goal
 
 abbrev pub invariant-loop-value : goal.invariant-loop-value

@@ -1,7 +1,7 @@
 use Rattle.std.proofs.Common.{◌≡◌, ◌+◌, ◌*◌, ◌<◌, [], length, get_or, sym, ap, ◌∙◌, subst, below_more, arith}
 use Rattle.std.proofs.lemmas.Bool.{OnTrue_at}
 use Rattle.std.proofs.lemmas.List.{get_or_default, length-set, length_push}
-use Rattle.model_walk.specs.GuidSlots.{slot_seen, guids_seen, AreChained, IsLastOf, IsNew}
+use Rattle.model_walk.specs.inner.GuidSlots.{slot_seen, guids_seen, AreChained, IsLastOf, IsNew}
 use Rattle.model_walk.proofs.SlotsChained.{guid_there, noted_more, chained_more, news_differ}
 use Rattle.model_walk.proofs.distinct_guids.differ_by_hash.Goals as goal
 

@@ -1,5 +1,5 @@
 use Rattle.std.proofs.Common.{◌≡◌, ℕ, ◌<◌, [], length, get_or}
-use Rattle.model_walk.specs.GuidSlots.{guids_seen, AreNoted, AreChained, IsNew}
+use Rattle.model_walk.specs.inner.GuidSlots.{guids_seen, AreNoted, AreChained, IsNew}
 use Rattle.model_walk.proofs.distinct_guids.differ_by_hash.Given as goal
 
 abbrev pub invariant-loop-at : goal.invariant-loop-at

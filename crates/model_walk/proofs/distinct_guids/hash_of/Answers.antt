@@ -1,5 +1,5 @@
 use Rattle.std.proofs.Common.{◌≡◌, ℕ, ◌+◌, ◌*◌, ◌%◌, ◌^◌, List, get_or, add-one, refl, sym, ◌∙◌, ap}
-use Rattle.model_walk.specs.GuidSlots.{hash_seen}
+use Rattle.model_walk.specs.inner.GuidSlots.{hash_seen}
 use Rattle.model_walk.proofs.distinct_guids.hash_of.Goals as goal
 
 -- one character more

@@ -1,5 +1,5 @@
 use Rattle.std.proofs.Common.{◌≡◌}
-use Rattle.model_walk.specs.GuidSlots.{hash_seen}
+use Rattle.model_walk.specs.inner.GuidSlots.{hash_seen}
 use Rattle.model_walk.proofs.distinct_guids.hash_of.Given as goal
 
 abbrev pub invariant-loop-at : goal.invariant-loop-at

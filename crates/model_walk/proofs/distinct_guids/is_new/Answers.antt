@@ -1,5 +1,5 @@
 use Rattle.std.proofs.Common.{◌≡◌, ◌+◌, ◌-◌, ◌<◌, length, get_or, refl, arith}
-use Rattle.model_walk.specs.GuidSlots.{guids_seen}
+use Rattle.model_walk.specs.inner.GuidSlots.{guids_seen}
 use Rattle.model_walk.proofs.SlotsChained.{guid_there, sought_first, sought_next, sought_all, falls, another}
 use Rattle.model_walk.proofs.distinct_guids.is_new.Goals as goal
 

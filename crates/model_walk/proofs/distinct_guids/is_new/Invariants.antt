@@ -1,5 +1,5 @@
 use Rattle.std.proofs.Common.{length}
-use Rattle.model_walk.specs.GuidSlots.{guids_seen, IsSought}
+use Rattle.model_walk.specs.inner.GuidSlots.{guids_seen, IsSought}
 use Rattle.model_walk.proofs.distinct_guids.is_new.Given as goal
 
 abbrev pub invariant-loop-other : goal.invariant-loop-other

@@ -1,5 +1,5 @@
 use Rattle.std.proofs.Common.{◌%◌, ap}
-use Rattle.model_walk.specs.GuidSlots.{slot_seen}
+use Rattle.model_walk.specs.inner.GuidSlots.{slot_seen}
 use Rattle.model_walk.proofs.distinct_guids.slot_of.Goals as goal
 
 pub returns-clause-same : goal.returns-clause-same

@@ -2,7 +2,7 @@ use Rattle.std.proofs.Common.{◌≡◌, ◌<◌, ℕ, length, Option, refl, sub
 use Rattle.std.specs.Option.{IfSome}
 use Rattle.model_walk.specs.declared.element_sketches.Stock.{Stock}
 use Rattle.model_walk.specs.declared.shape_pieces.Range.{Range}
-use Rattle.model_walk.specs.Stocked.{AddsPieces, shape_items}
+use Rattle.model_walk.specs.inner.Stocked.{AddsPieces, shape_items}
 use Rattle.model_walk.proofs.PiecesKept.{more_stocked, more_grows, more_shows}
 use Rattle.model_walk.proofs.element_sketches.add_pieces.Goals as goal
 

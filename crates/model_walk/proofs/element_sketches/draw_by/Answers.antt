@@ -2,7 +2,7 @@ use Rattle.std.proofs.Common.{Option, refl, subst}
 use Rattle.std.proofs.lemmas.Bool.{OnTrue_at}
 use Rattle.std.specs.Option.{IfSome}
 use Rattle.model_walk.specs.declared.shape_pieces.Range.{Range}
-use Rattle.model_walk.specs.Stocked.{IsStocked, ShowsItems}
+use Rattle.model_walk.specs.inner.Stocked.{IsStocked, ShowsItems}
 use Rattle.ifc_elements.specs.Items.{body_items}
 use Rattle.model_walk.proofs.PiecesKept.{sound_stock}
 use Rattle.model_walk.proofs.element_sketches.draw_by.Goals as goal

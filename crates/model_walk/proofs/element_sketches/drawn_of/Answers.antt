@@ -1,6 +1,6 @@
 use Rattle.std.proofs.Common.{ℕ, Option, sym, subst, arith}
 use Rattle.std.specs.Option.{IfSome}
-use Rattle.model_walk.specs.Stocked.{IsStocked, Grows, Draws}
+use Rattle.model_walk.specs.inner.Stocked.{IsStocked, Grows, Draws}
 use Rattle.model_walk.proofs.SketchesMade.{drawn_none, drawn_more, are_drawn}
 use Rattle.model_walk.proofs.element_sketches.drawn_of.Goals as goal
 

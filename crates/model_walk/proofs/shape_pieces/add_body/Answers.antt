@@ -1,6 +1,6 @@
 use Rattle.std.proofs.Common.{ℕ, [], ◌∷◌, flat_map, sym, ◌∙◌}
 use Rattle.ifc_elements.specs.Items.{items_of, bodies_among}
-use Rattle.model_walk.specs.Stocked.{AddsPieces}
+use Rattle.model_walk.specs.inner.Stocked.{AddsPieces}
 use Rattle.model_walk.proofs.PiecesAdded.{found_by, pieces_none, pieces_of, among_untold, among_other, among_body}
 use Rattle.model_walk.proofs.shape_pieces.add_body.Goals as goal
 

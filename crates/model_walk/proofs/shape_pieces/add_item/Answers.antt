@@ -2,8 +2,8 @@ use Rattle.std.proofs.Common.{ℕ, None, [], ◌∷◌, sym, ◌∙◌}
 use Rattle.p21_values.specs.Attributes.{led_to}
 use Rattle.faceset.specs.FaceSets.{Joined}
 use Rattle.ifc_elements.specs.Sound.{KeptSet, KeptMapped}
-use Rattle.model_walk.specs.SurfacePieces.{AddsShown, Carried}
-use Rattle.model_walk.specs.Stocked.{AddsPieces}
+use Rattle.model_walk.specs.inner.SurfacePieces.{AddsShown, Carried}
+use Rattle.model_walk.specs.inner.Stocked.{AddsPieces}
 use Rattle.model_walk.proofs.PiecesAdded.{found_by, mapped_item_shown, set_item_shown}
 use Rattle.model_walk.proofs.shape_pieces.add_item.Goals as goal
 

@@ -4,7 +4,7 @@ use Rattle.p21_values.specs.Attributes.{led_to}
 use Rattle.p21_values.proofs.Turns.{ended}
 use Rattle.ifc_instances.proofs.LedTo.{led_append}
 use Rattle.ifc_elements.specs.Items.{spelled_items}
-use Rattle.model_walk.specs.Stocked.{AddsPieces}
+use Rattle.model_walk.specs.inner.Stocked.{AddsPieces}
 use Rattle.model_walk.proofs.PiecesAdded.{pieces_none, pieces_more}
 use Rattle.model_walk.proofs.shape_pieces.add_items.Goals as goal
 

@@ -2,8 +2,8 @@ use Rattle.std.proofs.Common.{◌≤◌, List, Option}
 use Rattle.bim_model.specs.declared.limits.TheConstants.{MOST_TRIANGLES}
 use Rattle.bim_model.specs.declared.geometry.Point.{Point}
 use Rattle.p21_values.specs.Attributes.{led_to}
-use Rattle.model_walk.specs.PooledSets.{AreReadSets}
-use Rattle.model_walk.specs.Stocked.{AddsPieces}
+use Rattle.model_walk.specs.inner.PooledSets.{AreReadSets}
+use Rattle.model_walk.specs.inner.Stocked.{AddsPieces}
 use Rattle.model_walk.proofs.shape_pieces.add_items.Given as goal
 
 abbrev pub invariant-loop-value : goal.invariant-loop-value

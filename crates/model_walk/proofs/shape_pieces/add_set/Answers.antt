@@ -2,7 +2,7 @@ use Rattle.std.proofs.Common.{ℕ, ◌+◌, [], ◌∷◌, sym, subst}
 use Rattle.p21_values.specs.Attributes.{led_to}
 use Rattle.faceset.specs.FaceSets.{Joined}
 use Rattle.ifc_elements.specs.Sound.{KeptSet}
-use Rattle.model_walk.specs.SurfacePieces.{AddsShown, Carried}
+use Rattle.model_walk.specs.inner.SurfacePieces.{AddsShown, Carried}
 use Rattle.model_walk.proofs.PiecesAdded.{set_shown}
 use Rattle.model_walk.proofs.shape_pieces.add_set.Goals as goal
 

@@ -4,7 +4,7 @@ use Rattle.p21_values.specs.Attributes.{led_to}
 use Rattle.p21_values.proofs.Turns.{ended}
 use Rattle.faceset.specs.FaceSets.{Joined}
 use Rattle.ifc_elements.specs.Sound.{KeptSet}
-use Rattle.model_walk.specs.SurfacePieces.{AddsShown, Carried}
+use Rattle.model_walk.specs.inner.SurfacePieces.{AddsShown, Carried}
 use Rattle.model_walk.proofs.PiecesAdded.{shown_none, sets_shown, no_sets}
 use Rattle.model_walk.proofs.shape_pieces.add_sets.Goals as goal
 

@@ -6,8 +6,8 @@ use Rattle.ifc_units.specs.declared.scale.Scale.{Scale}
 use Rattle.faceset.specs.FaceSets.{Joined}
 use Rattle.p21_values.specs.Attributes.{led_to}
 use Rattle.ifc_elements.specs.Sound.{KeptSet}
-use Rattle.model_walk.specs.PooledSets.{AreReadSets}
-use Rattle.model_walk.specs.SurfacePieces.{AddsShown, Carried}
+use Rattle.model_walk.specs.inner.PooledSets.{AreReadSets}
+use Rattle.model_walk.specs.inner.SurfacePieces.{AddsShown, Carried}
 use Rattle.model_walk.proofs.shape_pieces.add_sets.Given as goal
 
 abbrev pub invariant-loop-value : goal.invariant-loop-value

@@ -3,7 +3,7 @@ use Rattle.p21_values.specs.declared.value.Value21.{Value21}
 use Rattle.p21_values.specs.Attributes.{listed}
 use Rattle.p21_values.proofs.Turns.{ended}
 use Rattle.ifc_elements.specs.Items.{items_of, bodies_among}
-use Rattle.model_walk.specs.Stocked.{AddsPieces}
+use Rattle.model_walk.specs.inner.Stocked.{AddsPieces}
 use Rattle.model_walk.proofs.PiecesAdded.{pieces_none, pieces_more, among_more}
 use Rattle.model_walk.proofs.shape_pieces.add_shape.Goals as goal
 

@@ -1,7 +1,7 @@
 use Rattle.std.proofs.Common.{[], ◌∷◌, ◌++◌, ap, sym, ◌∙◌, subst}
 use Rattle.bim_model.specs.declared.geometry.Triangle.{Triangle}
 use Rattle.ifc_elements.specs.Surfaces.{placed_by}
-use Rattle.model_walk.specs.SurfacePieces.{ArePlacedNear}
+use Rattle.model_walk.specs.inner.SurfacePieces.{ArePlacedNear}
 use Rattle.model_walk.proofs.SurfacesPlaced.{own_one, row_one, rows_placed}
 use Rattle.model_walk.proofs.sketched_surfaces.add_rows.Goals as goal
 

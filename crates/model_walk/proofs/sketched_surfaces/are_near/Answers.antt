@@ -1,7 +1,7 @@
 use Rattle.std.proofs.Common.{Option, sym, subst}
 use Rattle.std.proofs.lemmas.Bool.{OnTrue_at, OnTrue_from}
 use Rattle.placement.specs.declared.frame.Frame.{Frame}
-use Rattle.model_walk.specs.SurfacePieces.{ArePlacedNear}
+use Rattle.model_walk.specs.inner.SurfacePieces.{ArePlacedNear}
 use Rattle.model_walk.specs.Sketches.{pieces_in, range_triangles}
 use Rattle.model_walk.proofs.SurfacesPlaced.{unmapped_near, identity_near}
 use Rattle.model_walk.proofs.sketched_surfaces.are_near.Goals as goal

@@ -1,7 +1,7 @@
 use Rattle.std.proofs.Common.{List, Some, subst}
 use Rattle.std.proofs.lemmas.Bool.{OnTrue_at}
 use Rattle.model_walk.specs.declared.shape_pieces.Piece.{Piece}
-use Rattle.model_walk.specs.SurfacePieces.{ArePlacedNear}
+use Rattle.model_walk.specs.inner.SurfacePieces.{ArePlacedNear}
 use Rattle.model_walk.specs.Sketches.{pieces_triangles}
 use Rattle.model_walk.proofs.SurfacesPlaced.{pieces_near, all_pieces}
 use Rattle.model_walk.proofs.sketched_surfaces.are_pieces_near.Goals as goal

@@ -1,5 +1,5 @@
 use Rattle.std.proofs.Common.{take, Some}
-use Rattle.model_walk.specs.SurfacePieces.{ArePlacedNear}
+use Rattle.model_walk.specs.inner.SurfacePieces.{ArePlacedNear}
 use Rattle.model_walk.specs.Sketches.{pieces_triangles}
 use Rattle.model_walk.proofs.sketched_surfaces.are_pieces_near.Given as goal
 

@@ -4,7 +4,7 @@ use Rattle.bim_model.specs.declared.geometry.Triangle.{Triangle}
 use Rattle.ifc_elements.specs.Surfaces.{placed_by}
 use Rattle.walk_rows.specs.declared.triangle_rows.Row.{Row}
 use Rattle.walk_rows.specs.Rows.{triangles_at}
-use Rattle.model_walk.specs.SurfacePieces.{ArePlacedNear}
+use Rattle.model_walk.specs.inner.SurfacePieces.{ArePlacedNear}
 use Rattle.model_walk.proofs.SurfacesPlaced.{own_one, rows_near, all_rows}
 use Rattle.model_walk.proofs.sketched_surfaces.are_rows_near.Goals as goal
 

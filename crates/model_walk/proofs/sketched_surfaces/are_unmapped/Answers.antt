@@ -1,5 +1,5 @@
 use Rattle.std.proofs.Common.{All, sym, ◌∙◌, subst}
-use Rattle.model_walk.specs.SurfacePieces.{IsUnmapped}
+use Rattle.model_walk.specs.inner.SurfacePieces.{IsUnmapped}
 use Rattle.model_walk.proofs.SurfacesPlaced.{unmapped_more, all_pieces}
 use Rattle.model_walk.proofs.sketched_surfaces.are_unmapped.Goals as goal
 

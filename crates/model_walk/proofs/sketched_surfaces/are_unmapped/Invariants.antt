@@ -1,5 +1,5 @@
 use Rattle.std.proofs.Common.{take, All}
-use Rattle.model_walk.specs.SurfacePieces.{IsUnmapped}
+use Rattle.model_walk.specs.inner.SurfacePieces.{IsUnmapped}
 use Rattle.model_walk.proofs.sketched_surfaces.are_unmapped.Given as goal
 
 abbrev pub invariant-loop-piece : goal.invariant-loop-piece

@@ -1,7 +1,7 @@
 use Rattle.std.proofs.Common.{[], ◌∷◌, Option, arith, subst}
 use Rattle.placement.specs.declared.frame.Frame.{Frame}
 use Rattle.placement.specs.Frames.{carried}
-use Rattle.model_walk.specs.SurfacePieces.{ArePlacedNear}
+use Rattle.model_walk.specs.inner.SurfacePieces.{ArePlacedNear}
 use Rattle.model_walk.proofs.sketched_surfaces.placed.Goals as goal
 
 pub place-requires-clause-near : goal.place-requires-clause-near

@@ -1,7 +1,7 @@
 use Rattle.std.proofs.Common.{◌≡◌, List, map, sym, subst}
 use Rattle.ifc_elements.specs.Surfaces.{placed_by}
 use Rattle.model_walk.specs.declared.shape_pieces.Piece.{Piece}
-use Rattle.model_walk.specs.SurfacePieces.{ArePlacedNear}
+use Rattle.model_walk.specs.inner.SurfacePieces.{ArePlacedNear}
 use Rattle.model_walk.specs.Sketches.{pieces_triangles}
 use Rattle.model_walk.proofs.SurfacesPlaced.{piece_one, pieces_placed, all_pieces}
 use Rattle.model_walk.proofs.sketched_surfaces.surface_of.Goals as goal

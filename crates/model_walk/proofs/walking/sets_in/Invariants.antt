@@ -1,6 +1,6 @@
 use Rattle.std.proofs.Common.{◌≡◌, ℕ, ◌<◌, length}
 use Rattle.model_walk.specs.Checked.{CleanThere}
-use Rattle.model_walk.specs.PooledSets.{AreReadSets}
+use Rattle.model_walk.specs.inner.PooledSets.{AreReadSets}
 use Rattle.model_walk.proofs.walking.sets_in.Given as goal
 
 abbrev pub invariant-loop-at : goal.invariant-loop-at

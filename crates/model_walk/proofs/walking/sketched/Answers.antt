@@ -1,7 +1,7 @@
 use Rattle.std.proofs.Common.{subst}
 use Rattle.std.proofs.lemmas.Bool.{OnTrue_at}
 use Rattle.model_walk.specs.Checked.{Differ}
-use Rattle.model_walk.specs.Stocked.{AreDrawn}
+use Rattle.model_walk.specs.inner.Stocked.{AreDrawn}
 use Rattle.model_walk.proofs.WalkMade.{walked}
 use Rattle.model_walk.proofs.walking.sketched.Goals as goal
 

@@ -1,5 +1,5 @@
 use Rattle.std.proofs.Common.{None, replicate, ap, ◌∙◌}
-use Rattle.model_walk.specs.PooledSets.{AreReadSets}
+use Rattle.model_walk.specs.inner.PooledSets.{AreReadSets}
 use Rattle.model_walk.proofs.WalkMade.{new_stock}
 use Rattle.model_walk.proofs.walking.stocked.Goals as goal
 

@@ -1,7 +1,7 @@
 use Rattle.std.proofs.Common.{◌∙◌}
 use Rattle.p21_lexer.proofs.RunLemmas.{behind_at}
-use Rattle.p21_lexer.specs.Kinds.{span}
-use Rattle.p21_lexer.specs.TokenSpans.{name_span, text_span, enumeration_span, bits_span}
+use Rattle.p21_lexer.specs.inner.Kinds.{span}
+use Rattle.p21_lexer.specs.inner.TokenSpans.{name_span, text_span, enumeration_span, bits_span}
 use Rattle.p21_lexer.proofs.cutting.end_of.Goals as goal
 
 pub returns-in-Name-clause-span : goal.returns-in-Name-clause-span

@@ -1,5 +1,5 @@
 use Rattle.std.proofs.Common.{◌≡◌, ◌+◌, ◌-◌, ◌≤◌, length, drop, option_map}
-use Rattle.p21_lexer.specs.TokenSpans.{comment_span}
+use Rattle.p21_lexer.specs.inner.TokenSpans.{comment_span}
 use Rattle.p21_lexer.proofs.gaps.comment_end.Given as goal
 
 abbrev pub invariant-loop-at : goal.invariant-loop-at

@@ -1,5 +1,5 @@
 use Rattle.std.proofs.Common.{◌≡◌, ◌+◌, ◌≤◌, drop, true, arith, ◌∙◌, sym}
-use Rattle.p21_lexer.specs.TokenSpans.{opens}
+use Rattle.p21_lexer.specs.inner.TokenSpans.{opens}
 use Rattle.p21_lexer.proofs.Gapping.{blanks_gap, blanks_none, opens_length, gap_append, comment_gap, comment_far, stop_open}
 use Rattle.p21_lexer.proofs.gaps.skip_any.Goals as goal
 

@@ -1,6 +1,6 @@
 use Rattle.std.proofs.Common.{◌≡◌, ◌+◌, ◌-◌, ◌≤◌, length, drop, option_map}
 use Rattle.std.specs.Prelude.{IfSome}
-use Rattle.p21_lexer.specs.TokenSpans.{text_span, later}
+use Rattle.p21_lexer.specs.inner.TokenSpans.{text_span, later}
 use Rattle.p21_lexer.proofs.spelling.long_text_end.Given as goal
 
 abbrev pub invariant-loop-at : goal.invariant-loop-at

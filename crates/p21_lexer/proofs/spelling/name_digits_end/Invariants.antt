@@ -1,5 +1,5 @@
 use Rattle.std.proofs.Common.{◌≡◌, ◌+◌, ◌-◌, ◌≤◌, length, drop}
-use Rattle.p21_lexer.specs.TokenSpans.{name_run}
+use Rattle.p21_lexer.specs.inner.TokenSpans.{name_run}
 use Rattle.p21_lexer.specs.declared.limits.TheConstants.{GREATEST_NAME}
 use Rattle.p21_lexer.proofs.spelling.name_digits_end.Given as goal
 

@@ -1,5 +1,5 @@
 use Rattle.std.proofs.Common.{◌≡◌, ◌+◌, ◌-◌, ◌≤◌, length, drop, option_map}
-use Rattle.p21_lexer.specs.TokenSpans.{text_span}
+use Rattle.p21_lexer.specs.inner.TokenSpans.{text_span}
 use Rattle.p21_lexer.proofs.spelling.quote_from.Given as goal
 
 abbrev pub invariant-loop-at : goal.invariant-loop-at

@@ -1,5 +1,5 @@
 use Rattle.std.proofs.Common.{◌≡◌, ◌+◌, ◌-◌, ◌*◌, ◌≤◌, get_or, drop, true, sym, ap, ◌∙◌, arith}
-use Rattle.p21_lexer.specs.TokenSpans.{name_run}
+use Rattle.p21_lexer.specs.inner.TokenSpans.{name_run}
 use Rattle.p21_lexer.specs.Spelling.{is_digit}
 use Rattle.p21_lexer.specs.declared.limits.TheConstants.{GREATEST_NAME}
 use Rattle.p21_lexer.proofs.RunLemmas.{name_step, name_stop, name_past}

@@ -1,5 +1,5 @@
 use Rattle.std.proofs.Common.{◌≡◌, ◌+◌, ◌-◌, ◌≤◌, length, drop, slice_range}
-use Rattle.p21_lexer.specs.TokenSpans.{name_run}
+use Rattle.p21_lexer.specs.inner.TokenSpans.{name_run}
 use Rattle.p21_lexer.specs.Spelling.{value_after}
 use Rattle.p21_lexer.specs.declared.limits.TheConstants.{GREATEST_NAME}
 use Rattle.p21_lexer.proofs.there.name_there.Given as goal

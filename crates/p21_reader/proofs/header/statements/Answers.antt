@@ -1,6 +1,6 @@
 use Rattle.std.proofs.Common.{Ok, subst, refl, true, false}
 use Rattle.p21_reader.specs.declared.header.Part.{Part}
-use Rattle.p21_reader.specs.Heading.{ReadsPart}
+use Rattle.p21_reader.specs.inner.Heading.{ReadsPart}
 use Rattle.p21_reader.proofs.Steps.{residual}
 use Rattle.p21_reader.proofs.Statements.{stated_fails, stated_more, stated_whole, says_named, says_unnamed}
 use Rattle.p21_reader.proofs.header.statements.Goals as goal

@@ -1,6 +1,6 @@
 use Rattle.std.proofs.Common.{sym, ap, ◌∙◌}
 use Rattle.p21_reader.specs.Machine.{next}
-use Rattle.p21_reader.specs.Heading.{sign_of, signs_of}
+use Rattle.p21_reader.specs.inner.Heading.{sign_of, signs_of}
 use Rattle.p21_reader.proofs.Headers.{signs_append}
 use Rattle.p21_reader.proofs.nested.follow.Goals as goal
 

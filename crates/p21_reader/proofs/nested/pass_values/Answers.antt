@@ -1,4 +1,4 @@
-use Rattle.p21_reader.specs.Heading.{sign_of, signs_of}
+use Rattle.p21_reader.specs.inner.Heading.{sign_of, signs_of}
 use Rattle.p21_reader.proofs.Steps.{residual, fails_none}
 use Rattle.p21_reader.proofs.Headers.{heads_fail, heads_step, follow_fail}
 use Rattle.p21_reader.proofs.nested.pass_values.Goals as goal

@@ -1,6 +1,6 @@
 use Rattle.std.proofs.Common.{◌≡◌, ◌-◌, ◌<◌, ◌≤◌, length}
 use Rattle.p21_reader.specs.declared.passing.Top.TheVariants as tops
-use Rattle.p21_reader.specs.ValueNesting.{IsFit}
+use Rattle.p21_reader.specs.inner.ValueNesting.{IsFit}
 use Rattle.p21_values.specs.TokenPieces.{IsPiece}
 use Rattle.p21_reader.proofs.Midway.{Midway}
 use Rattle.p21_reader.proofs.passing.pass_nested.Given as goal

@@ -1,5 +1,5 @@
 use Rattle.std.proofs.Common.{◌-◌, ◌≤◌, length}
-use Rattle.p21_reader.specs.Tabling.{PassesRows}
+use Rattle.p21_reader.specs.inner.Tabling.{PassesRows}
 use Rattle.p21_reader.proofs.passing.pass_rows.Given as goal
 
 abbrev pub invariant-loop-behind : goal.invariant-loop-behind

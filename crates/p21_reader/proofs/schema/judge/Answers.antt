@@ -1,6 +1,6 @@
 use Rattle.std.proofs.Common.{sym, subst, ◌∙◌}
 use Rattle.p21_reader.specs.declared.schema.Schema.{Schema}
-use Rattle.p21_reader.specs.Heading.{SaysSchema}
+use Rattle.p21_reader.specs.inner.Heading.{SaysSchema}
 use Rattle.p21_reader.proofs.Asking.{schema_word}
 use Rattle.p21_reader.proofs.Statements.{says_other, says_again, says_ifc4, says_wrong}
 use Rattle.p21_reader.proofs.schema.judge.Goals as goal

@@ -3,7 +3,7 @@ use Rattle.p21_values.specs.declared.fault.ReadFault.TheVariants as faults
 use Rattle.p21_values.specs.declared.piece.Kind.TheVariants as kinds
 use Rattle.p21_values.specs.Grammar.{Inside, After, Value}
 use Rattle.p21_values.specs.Lexemes.{lexeme_of}
-use Rattle.p21_reader.specs.Tabling.{PutsStart, PutsFirst, PutsBehind, PutsStarts}
+use Rattle.p21_reader.specs.inner.Tabling.{PutsStart, PutsFirst, PutsBehind, PutsStarts}
 use Rattle.p21_reader.proofs.Steps.{residual, fails_none, fails_refused, after_fails}
 use Rattle.p21_reader.proofs.Lists.{said, comma_fails, inside_fails}
 use Rattle.p21_reader.proofs.Inwards.{after_none}

@@ -1,5 +1,5 @@
 use Rattle.std.proofs.Common.{◌≡◌, ℕ, ◌+◌, ◌-◌, ◌≤◌, length}
-use Rattle.p21_reader.specs.Tabling.{PutsMore}
+use Rattle.p21_reader.specs.inner.Tabling.{PutsMore}
 use Rattle.p21_reader.proofs.table.pass_absent.Given as goal
 
 abbrev pub invariant-loop-end : goal.invariant-loop-end

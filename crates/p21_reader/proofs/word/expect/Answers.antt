@@ -1,7 +1,7 @@
 use Rattle.std.proofs.Common.{◌≡◌, refl, sym, ◌∙◌, rules, [], Err}
 use Rattle.p21_values.specs.Grammar.{T}
 use Rattle.p21_values.specs.Lexemes.{class_of, lexeme_of}
-use Rattle.p21_reader.specs.TokenReading.{sign_class}
+use Rattle.p21_reader.specs.inner.TokenReading.{sign_class}
 use Rattle.p21_reader.proofs.Signs.{sign_refused}
 use Rattle.p21_reader.proofs.Steps.{fails_none, fails_refused, residual, expected}
 use Rattle.p21_reader.proofs.word.expect.Goals as goal

@@ -2,7 +2,7 @@ use Rattle.std.proofs.Common.{◌≡◌, ◌∙◌, sym, ap, refl, rules, []}
 use Rattle.p21_reader.specs.declared.word.Seen.TheVariants as seen
 use Rattle.p21_values.specs.Grammar.{Word, T}
 use Rattle.p21_values.specs.Lexemes.{lexeme_of, class_of}
-use Rattle.p21_reader.specs.Heading.{mark_seen, class_seen}
+use Rattle.p21_reader.specs.inner.Heading.{mark_seen, class_seen}
 use Rattle.p21_reader.proofs.Steps.{residual, fails_none, fails_refused, goes_one}
 use Rattle.p21_reader.proofs.Marks.{word_is, word_no, seen_word}
 use Rattle.p21_reader.proofs.word.expect_word.Goals as goal

@@ -1,7 +1,7 @@
 use Rattle.std.proofs.Common.{◌≡◌, ℕ, ◌+◌, ◌<◌, ◌⊎◌, inl, inr, ◌∙◌, subst, Bool, true, false, arith}
 use Rattle.std.proofs.lemmas.Bool.{both_ways}
 use Rattle.ifc_instances.proofs.Rising.{below_next}
-use Rattle.spatial_tree.specs.TreeFaults.{IsFaulty}
+use Rattle.spatial_tree.specs.inner.TreeFaults.{IsFaulty}
 use Rattle.spatial_tree.proofs.Listing.{not_faulty, none_faulty}
 use Rattle.spatial_tree.proofs.build.first_fault.Goals as goal
 use Rattle.spatial_tree.proofs.build.first_fault.Goals.{in-Looped, in_default}

@@ -1,6 +1,6 @@
 use Rattle.std.proofs.Common.{sym, subst}
 use Rattle.spatial_tree.specs.Trees.{IsRefused, ListsStoreys}
-use Rattle.spatial_tree.specs.TreeFaults.{IsFirstFault}
+use Rattle.spatial_tree.specs.inner.TreeFaults.{IsFirstFault}
 use Rattle.spatial_tree.proofs.RelationsTabled.{world_table, lent_within, fault_fits, refused_at, tree_of, storeys_listed}
 use Rattle.spatial_tree.proofs.build.tree.Goals as goal
 

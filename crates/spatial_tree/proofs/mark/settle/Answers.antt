@@ -1,6 +1,6 @@
 use Rattle.std.proofs.Common.{◌≡◌, ◌<◌, ◌∙◌, sym, subst, length, true, false, Bool, arith}
 use Rattle.std.proofs.lemmas.Bool.{both_ways}
-use Rattle.spatial_tree.specs.StoreyMarks.{Settling, KeepsSeen}
+use Rattle.spatial_tree.specs.inner.StoreyMarks.{Settling, KeepsSeen}
 use Rattle.spatial_tree.proofs.Settles.{settle_skips, settle_sets, settled_seen, popped_done, popped_within}
 use Rattle.spatial_tree.proofs.mark.settle.Goals as goal
 use Rattle.spatial_tree.proofs.mark.settle.Goals.{in-Looped, in_default-matches}

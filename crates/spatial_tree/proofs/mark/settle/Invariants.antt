@@ -1,5 +1,5 @@
 use Rattle.std.proofs.Common.{vec_len}
-use Rattle.spatial_tree.specs.StoreyMarks.{Settling, KeepsSeen}
+use Rattle.spatial_tree.specs.inner.StoreyMarks.{Settling, KeepsSeen}
 use Rattle.spatial_tree.proofs.mark.settle.Given as goal
 
 abbrev pub invariant-loop-at : goal.invariant-loop-at

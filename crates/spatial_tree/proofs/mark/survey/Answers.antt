@@ -1,7 +1,7 @@
 use Rattle.std.proofs.Common.{ℕ, ◌<◌, ◌≡◌, ◌≢◌, ◌∙◌, sym, subst, length, replicate, arith}
 use Rattle.std.proofs.lemmas.Grind.{common_steps}
 use Rattle.spatial_tree.specs.declared.mark.Mark.TheVariants.{Unseen}
-use Rattle.spatial_tree.specs.StoreyMarks.{mark_at}
+use Rattle.spatial_tree.specs.inner.StoreyMarks.{mark_at}
 use Rattle.spatial_tree.proofs.Settles.{starts_right, starts_idle, surveyed, seen_more, written}
 use Rattle.spatial_tree.proofs.mark.survey.Goals as goal
 

@@ -1,6 +1,6 @@
 use Rattle.std.proofs.Common.{◌≡◌, ◌≢◌, ℕ, ◌<◌, []}
 use Rattle.spatial_tree.specs.declared.mark.Mark.TheVariants.{Unseen}
-use Rattle.spatial_tree.specs.StoreyMarks.{AreRight, AreIdle, mark_at}
+use Rattle.spatial_tree.specs.inner.StoreyMarks.{AreRight, AreIdle, mark_at}
 use Rattle.spatial_tree.proofs.mark.survey.Given as goal
 
 abbrev pub invariant-loop-start : goal.invariant-loop-start

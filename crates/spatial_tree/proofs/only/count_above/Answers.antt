@@ -2,7 +2,7 @@ use Rattle.std.proofs.Common.{rules, nat_lt, arith, get_or, sym, subst, ◌+◌,
 use Rattle.std.proofs.lemmas.Bool.Decides.{nat_tests}
 use Rattle.std.proofs.lemmas.List.Sorted.{IsNonDecreasingBy-from_sort, IsPartitionedBy-ltb, IsPartitionPoint-from_clause}
 use Rattle.spatial_tree.specs.declared.relations.Link.{Link}
-use Rattle.spatial_tree.specs.Onlys.{Counts, link}
+use Rattle.spatial_tree.specs.inner.Onlys.{Counts, link}
 use Rattle.spatial_tree.proofs.Counting.{HasBefore, before_first, none_later, more_at, counts_all}
 use Rattle.spatial_tree.proofs.only.count_above.Goals as goal
 

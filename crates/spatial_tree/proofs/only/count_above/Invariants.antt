@@ -1,4 +1,4 @@
-use Rattle.spatial_tree.specs.Onlys.{Counts}
+use Rattle.spatial_tree.specs.inner.Onlys.{Counts}
 use Rattle.spatial_tree.proofs.Counting.{HasBefore}
 use Rattle.spatial_tree.proofs.only.count_above.Given as goal
 

@@ -1,6 +1,6 @@
 use Rattle.std.proofs.Common.{sym, ◌∙◌}
 use Rattle.spatial_tree.specs.Relations.{Relates}
-use Rattle.spatial_tree.specs.Onlys.{Adds}
+use Rattle.spatial_tree.specs.inner.Onlys.{Adds}
 use Rattle.spatial_tree.proofs.Relating.{relates_added, on_ok_map, Pairs}
 use Rattle.spatial_tree.proofs.relations.add_instance.Goals as goal
 

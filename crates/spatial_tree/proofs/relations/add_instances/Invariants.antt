@@ -1,6 +1,6 @@
 use Rattle.std.proofs.Common.{length}
 use Rattle.spatial_tree.specs.Relations.{Relates}
-use Rattle.spatial_tree.specs.Onlys.{Adds}
+use Rattle.spatial_tree.specs.inner.Onlys.{Adds}
 use Rattle.spatial_tree.proofs.Adding.{AnyBefore}
 use Rattle.spatial_tree.proofs.relations.add_instances.Given as goal
 

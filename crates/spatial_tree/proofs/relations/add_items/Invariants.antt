@@ -1,6 +1,6 @@
 use Rattle.std.proofs.Common.{◌≡◌, Some, length}
 use Rattle.p21_values.specs.Values.{reference_of}
-use Rattle.spatial_tree.specs.Onlys.{Adds}
+use Rattle.spatial_tree.specs.inner.Onlys.{Adds}
 use Rattle.spatial_tree.proofs.Adding.{AnyBefore}
 use Rattle.spatial_tree.proofs.relations.add_items.Given as goal
 

@@ -1,4 +1,4 @@
-use Rattle.spatial_tree.specs.Onlys.{link}
+use Rattle.spatial_tree.specs.inner.Onlys.{link}
 use Rattle.spatial_tree.proofs.StepsMade.{object_pushed, object_kept}
 use Rattle.spatial_tree.proofs.step.push_objects.Goals as goal
 

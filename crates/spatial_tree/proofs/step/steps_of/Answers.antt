@@ -1,6 +1,6 @@
 use Rattle.std.proofs.Common.{Contains, get_or, sym, subst, ◌+◌}
 use Rattle.std.proofs.lemmas.List.{get_or_default}
-use Rattle.spatial_tree.specs.UpwardSteps.{NextIn, TornIn, AreFirstStepsOf}
+use Rattle.spatial_tree.specs.inner.UpwardSteps.{NextIn, TornIn, AreFirstStepsOf}
 use Rattle.spatial_tree.proofs.Stepping.{steps_push}
 use Rattle.spatial_tree.proofs.step.steps_of.Goals as goal
 

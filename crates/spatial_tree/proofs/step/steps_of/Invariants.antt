@@ -1,5 +1,5 @@
 use Rattle.std.proofs.Common.{Contains}
-use Rattle.spatial_tree.specs.UpwardSteps.{NextIn, TornIn, AreFirstStepsOf}
+use Rattle.spatial_tree.specs.inner.UpwardSteps.{NextIn, TornIn, AreFirstStepsOf}
 use Rattle.spatial_tree.proofs.step.steps_of.Given as goal
 
 abbrev pub invariant-loop-object : goal.invariant-loop-object

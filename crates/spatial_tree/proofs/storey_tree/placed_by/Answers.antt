@@ -2,7 +2,7 @@ use Rattle.std.proofs.Common.{◌≡◌, ◌++◌, ◌∷◌, [], ◌+◌, get_o
 use Rattle.std.proofs.lemmas.Grind.{common_steps}
 use Rattle.std.specs.List.Sorted.{IsNonDecreasingBy}
 use Rattle.spatial_tree.specs.declared.storey_tree.Placed.{Placed}
-use Rattle.spatial_tree.specs.StoreyMarks.{told_by}
+use Rattle.spatial_tree.specs.inner.StoreyMarks.{told_by}
 use Rattle.spatial_tree.specs.Placing.{placed, ArePlaced}
 use Rattle.spatial_tree.proofs.Trees.{placed_passed, placed_pushed, placed_rises, told_settled}
 use Rattle.spatial_tree.proofs.storey_tree.placed_by.Goals as goal

@@ -1,6 +1,6 @@
 use Rattle.std.proofs.Common.{◌≡◌, ◌+◌}
 use Rattle.book_turn.specs.Passes.{IsSingle, KeepsNumbers}
-use Rattle.turn_tests.specs.EntryCounts.{own_count}
+use Rattle.turn_tests.specs.inner.EntryCounts.{own_count}
 use Rattle.turn_tests.proofs.counter_tests.count.Given as goal
 
 abbrev pub invariant-loop-done : goal.invariant-loop-done

@@ -1,6 +1,6 @@
 use Rattle.std.proofs.Common.{rules, ◌≡◌, ◌+◌}
 use Rattle.book_turn.specs.Passes.{KeepsNumbers, new_pass}
-use Rattle.turn_tests.specs.EntryCounts.{own_count}
+use Rattle.turn_tests.specs.inner.EntryCounts.{own_count}
 use Rattle.turn_tests.proofs.Counting.{all_made}
 use Rattle.turn_tests.proofs.counter_tests.in_two_threads.Goals as goal
 

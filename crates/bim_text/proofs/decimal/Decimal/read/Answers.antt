@@ -2,7 +2,7 @@ use Rattle.std.proofs.Common.{◌≤◌, arith, subst, ℤ, pos, ◌≤ℤ◌, n
 use Rattle.std.proofs.lemmas.Int.{ints}
 use Rattle.bim_model.specs.declared.limits.TheConstants.{MOST_UPLOAD}
 use Rattle.bim_text.specs.declared.limits.TheConstants.{MOST_EXPONENT}
-use Rattle.bim_text.specs.NumberScanning.{parts}
+use Rattle.bim_text.specs.inner.NumberScanning.{parts}
 use Rattle.bim_text.proofs.Reading.{if_none, no_whole, no_digits, no_fraction, no_exponent, read_is, power_is, value_is}
 use Rattle.bim_text.proofs.decimal.Decimal.read.Goals as goal
 

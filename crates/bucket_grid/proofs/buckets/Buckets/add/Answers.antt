@@ -1,5 +1,5 @@
 use Rattle.std.proofs.Common.{map, ap₂, arith, rules, ◌∙◌}
-use Rattle.bucket_grid.specs.BucketSlots.{bucket_of}
+use Rattle.bucket_grid.specs.inner.BucketSlots.{bucket_of}
 use Rattle.bucket_grid.proofs.OneList.{added}
 use Rattle.bucket_grid.proofs.buckets.Buckets.add.Goals as goal
 

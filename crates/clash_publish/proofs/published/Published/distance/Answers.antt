@@ -10,7 +10,7 @@ use Rattle.clash_publish.proofs.published.Published.distance.Goals as goal
 pub returns-then-rule-rules : goal.returns-then-rule-rules
 returns-then-rule-rules c =
     let rules = c.list-rules.ensures.same ∙ c.rules.ensures.same ∙ ap (λ (g : GridValue). g.version.rules) c.get.ensures ∙ ap (λ (v : Version). v.rules) c.self.view_is in
-    sym (distance_past c.list-rules.result.now c.args.rule c.if-rule-rules.true) ∙ ap (λ (l : List Rule). distance_at l c.args.rule) rules
+    c.new.ensures ∙ sym (distance_past c.list-rules.result.now c.args.rule c.if-rule-rules.true) ∙ ap (λ (l : List Rule). distance_at l c.args.rule) rules
 
 pub returns-in-Clash : goal.returns-in-Clash
 returns-in-Clash c =
@@ -20,4 +20,4 @@ returns-in-Clash c =
 pub returns-in-Ignore : goal.returns-in-Ignore
 returns-in-Ignore c =
     let rules = c.list-rules.ensures.same ∙ c.rules.ensures.same ∙ ap (λ (g : GridValue). g.version.rules) c.get.ensures ∙ ap (λ (v : Version). v.rules) c.self.view_is in
-    sym (distance_here c.list-rules.result.now c.args.rule _ Ignore c.if-rule-rules.false c.in-Ignore.is) ∙ ap (λ (l : List Rule). distance_at l c.args.rule) rules
+    c.new-in-Ignore.ensures ∙ sym (distance_here c.list-rules.result.now c.args.rule _ Ignore c.if-rule-rules.false c.in-Ignore.is) ∙ ap (λ (l : List Rule). distance_at l c.args.rule) rules

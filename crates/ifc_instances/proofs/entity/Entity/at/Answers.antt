@@ -1,5 +1,5 @@
 use Rattle.std.proofs.Common.{ap, ◌∙◌}
-use Rattle.ifc_instances.specs.Coded.{by_code}
+use Rattle.ifc_instances.specs.inner.Coded.{by_code}
 use Rattle.ifc_instances.proofs.CodedEntities.{entity_coded}
 use Rattle.ifc_instances.proofs.entity.Entity.at.Goals as goal
 

@@ -1,5 +1,5 @@
 use Rattle.std.proofs.Common.{ap, ◌∙◌}
-use Rattle.ifc_instances.specs.Coded.{has_code}
+use Rattle.ifc_instances.specs.inner.Coded.{has_code}
 use Rattle.ifc_instances.proofs.CodedEntities.{is_a_coded}
 use Rattle.ifc_instances.proofs.entity.Entity.includes.Goals as goal
 

@@ -1,5 +1,5 @@
 use Rattle.std.proofs.Common.{ℕ, ◌<◌, get_or, Contains}
-use Rattle.placement.specs.Walks.{Settled, AllReached}
+use Rattle.placement.specs.inner.Walks.{Settled, AllReached}
 use Rattle.placement.proofs.chains.Chains.of.Given as goal
 
 abbrev pub invariant-loop-id : goal.invariant-loop-id

@@ -1,6 +1,6 @@
 use Rattle.std.proofs.Common.{◌≡◌, ◌<◌, ◌∷◌, [], length, Some, None, ap, ◌∙◌, sym, arith}
 use Rattle.std.proofs.lemmas.List.{get_or_append_left, get_or_default}
-use Rattle.placement.specs.Walks.{rank_at}
+use Rattle.placement.specs.inner.Walks.{rank_at}
 use Rattle.placement.proofs.Walking.{none_left, no_rank, met_one, climbs_on, climbed_top, unread, stuck, outcome}
 use Rattle.placement.proofs.walk.Walk.climb.Goals as goal
 

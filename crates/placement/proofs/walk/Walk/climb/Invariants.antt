@@ -1,5 +1,5 @@
 use Rattle.std.proofs.Common.{◌≡◌, ℕ, ◌<◌, length, slice_index, sum_by}
-use Rattle.placement.specs.Walks.{is_new, Ranked, Climbs}
+use Rattle.placement.specs.inner.Walks.{is_new, Ranked, Climbs}
 use Rattle.placement.proofs.walk.Walk.climb.Given as goal
 
 abbrev pub invariant-up : goal.invariant-up

@@ -1,7 +1,7 @@
 use Rattle.std.proofs.Common.{◌≡◌, ℕ, ◌-◌, ◌<◌, ◌⊎◌, ◌++◌, ◌∷◌, [], List, length, get_or, ap, ◌∙◌, sym, subst, Contains, arith}
 use Rattle.std.proofs.lemmas.List.{length_push, get_or_default}
 use Rattle.std.proofs.lemmas.List.Elements.{Contains-append_left}
-use Rattle.placement.specs.Walks.{IsFrom, Settling}
+use Rattle.placement.specs.inner.Walks.{IsFrom, Settling}
 use Rattle.placement.proofs.Visiting.{from_one, settle_next}
 use Rattle.placement.proofs.walk.Walk.settle.Goals as goal
 

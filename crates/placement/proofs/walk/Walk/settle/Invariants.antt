@@ -1,6 +1,6 @@
 use Rattle.std.proofs.Common.{◌≡◌, ℕ, ◌+◌, ◌-◌, ◌≤◌, ◌⊎◌, List, length, Contains}
 use Rattle.p21_values.specs.declared.value.Instance.{Instance}
-use Rattle.placement.specs.Walks.{IsFrom, Rest, Settling}
+use Rattle.placement.specs.inner.Walks.{IsFrom, Rest, Settling}
 use Rattle.placement.proofs.walk.Walk.settle.Given as goal
 
 abbrev pub invariant-loop-k : goal.invariant-loop-k

@@ -1,5 +1,5 @@
 use Rattle.std.proofs.Common.{◌≡◌, ◌+◌, arith}
-use Rattle.server_commands.specs.Turns.{ServerState}
+use Rattle.server_commands.specs.inner.Turns.{ServerState}
 use Rattle.server_commands.proofs.Giving.{calls_ok}
 use Rattle.server_commands.proofs.one_thread.OneThread.call.Goals as goal
 

@@ -3,8 +3,8 @@ use Rattle.book_history.specs.declared.replies.BookReply.{BookReply}
 use Rattle.book_history.specs.declared.requests.BookRequest.TheVariants.{TakeWork, Finish}
 use Rattle.book_history.specs.Legal.{IsLegal}
 use Rattle.bim_session.specs.Works.{IsFoundFor}
-use Rattle.server_commands.specs.Turns.{ServerState, with_turn}
-use Rattle.server_commands.specs.BucketWork.{GivesOut}
+use Rattle.server_commands.specs.inner.Turns.{ServerState, with_turn}
+use Rattle.server_commands.specs.inner.BucketWork.{GivesOut}
 use Rattle.server_commands.proofs.Giving.{gives_some, set_legal}
 use Rattle.server_commands.proofs.one_thread.OneThread.work_one.Goals as goal
 

@@ -1,6 +1,6 @@
 use Rattle.std.proofs.Common.{◌≡◌, ◌+◌}
 use Rattle.book_history.specs.History.{IsBefore}
-use Rattle.server_commands.specs.BucketWork.{WorksTimes}
+use Rattle.server_commands.specs.inner.BucketWork.{WorksTimes}
 use Rattle.server_commands.proofs.one_thread.OneThread.work_up_to.Given as goal
 
 abbrev pub invariant-loop-done : goal.invariant-loop-done

@@ -5,7 +5,7 @@ use Rattle.bim_model.specs.declared.geometry.Extent.{Extent}
 use Rattle.exact_arith.specs.Space.{Face}
 use Rattle.clearance.specs.Near.{FacesNear, NearAny}
 use Rattle.bim_model.specs.Points.{shape_of}
-use Rattle.clearance.specs.BoxContainment.{InExtent, IsExtent}
+use Rattle.clearance.specs.inner.BoxContainment.{InExtent, IsExtent}
 
 -- the triangles of a list lie in a box
 abbrev pub AllIn : Extent → List Triangle → Type 0

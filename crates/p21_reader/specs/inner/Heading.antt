@@ -19,7 +19,7 @@ use Rattle.p21_values.specs.Grammar.{Class, Sign, T, Derives}
 use Rattle.p21_reader.specs.Machine.{next}
 use Rattle.p21_values.specs.Lexemes.{Lexeme, Opening, Closing, WordsOf, KeywordOf, lexeme_of, class_of, classes, Cuts}
 use Rattle.p21_reader.specs.Schema.{Statement, SpellsStatement, SpellsStatements, NamesIfc4, IsIfc4, schemas}
-use Rattle.p21_reader.specs.TokenReading.{Goes, Fails}
+use Rattle.p21_reader.specs.inner.TokenReading.{Goes, Fails}
 use Rattle.p21_values.specs.TokenPieces.{IsPiece}
 
 -- What the code's words for marks, tokens and what is wanted stand for.

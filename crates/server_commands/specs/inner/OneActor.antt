@@ -6,7 +6,7 @@ use Rattle.book_history.specs.Runs.{Step, IsRun, IsOneThread}
 use Rattle.book_passes.specs.Lessons.{CallerSeen}
 use Rattle.bim_session.specs.Works.{last_turn}
 use Rattle.link_session.specs.Callers.{LearnsBy}
-use Rattle.server_commands.specs.Turns.{ServerState}
+use Rattle.server_commands.specs.inner.Turns.{ServerState}
 
 -- what is seen of such a caller: its number is 0, it has seen the whole history, and each turn is a call of its own
 abbrev pub seen_alone : ServerState → CallerSeen

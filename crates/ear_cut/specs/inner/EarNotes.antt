@@ -9,7 +9,7 @@ use Rattle.ear_cut.specs.declared.corner_notes.Note.{Note}
 use Rattle.ear_cut.specs.declared.corner_frames.Frames.{Frames}
 use Rattle.ear_cut.specs.Corners.{nobody, turn_at, angle_of, AreInGrid}
 use Rattle.ear_cut.specs.Removal.{is_free, choice}
-use Rattle.ear_cut.specs.CornerFrames.{AreFramesIn}
+use Rattle.ear_cut.specs.inner.CornerFrames.{AreFramesIn}
 
 -- the note of a corner of which nothing is known
 abbrev pub blank : Note

@@ -3,7 +3,7 @@ use Rattle.std.specs.Prelude.{◌≡◌, ◌≢◌, ℕ, ◌<◌, ◌+◌, ◌�
 use Rattle.spatial_tree.specs.declared.step.Step.{Step}
 use Rattle.spatial_tree.specs.declared.mark.Mark.{Mark}
 use Rattle.spatial_tree.specs.declared.mark.Mark.TheVariants.{Unseen, OnWay, Looped, Settled}
-use Rattle.spatial_tree.specs.UpwardSteps.{Goes, IsRound, Finds}
+use Rattle.spatial_tree.specs.inner.UpwardSteps.{Goes, IsRound, Finds}
 
 -- the mark at a place
 abbrev pub mark_at : List Mark → ℕ → Mark

@@ -13,10 +13,10 @@ use Rattle.p21_values.specs.Grammar.{Sign, T, Equals, Semi, Body, Value, Inside}
 use Rattle.p21_lexer.specs.Cutting.{CutsFrom}
 use Rattle.p21_values.specs.Lexemes.{Lexeme, Separator, Closing, lexeme_of, class_of}
 use Rattle.p21_reader.specs.Machine.{next}
-use Rattle.p21_reader.specs.ValueNesting.{EndsRow, HasRows}
+use Rattle.p21_reader.specs.inner.ValueNesting.{EndsRow, HasRows}
 use Rattle.p21_values.specs.Printing.{print_all}
 use Rattle.p21_values.specs.Counting.{size, values_of}
-use Rattle.p21_reader.specs.TokenReading.{Goes, Fails, FailsAfter, ReadsValue}
+use Rattle.p21_reader.specs.inner.TokenReading.{Goes, Fails, FailsAfter, ReadsValue}
 use Rattle.p21_reader.specs.Instances.{SpellsInstance, ReadsBody}
 use Rattle.p21_reader.specs.ExchangeFiles.{ReadsSection}
 use Rattle.p21_values.specs.Standing.{StandAt}

@@ -2,7 +2,7 @@ use Rattle.std.specs.Prelude.{ℕ, ◌+◌, List, drop, ◌==◌, ◌||◌, if�
 use Rattle.p21_lexer.specs.declared.token.TokenKind.{TokenKind}
 use Rattle.p21_lexer.specs.declared.token.TokenKind.TheVariants as kinds
 use Rattle.p21_lexer.specs.Spelling.{is_single, is_digit, is_sign, is_letter}
-use Rattle.p21_lexer.specs.TokenSpans.{word_span, name_span, number_span, text_span, enumeration_span, bits_span}
+use Rattle.p21_lexer.specs.inner.TokenSpans.{word_span, name_span, number_span, text_span, enumeration_span, bits_span}
 
 -- Which kind a first byte tells, and how far it reaches: what the code computes. No public contract cites it.
 

@@ -6,7 +6,7 @@ use Rattle.exact_arith.specs.Space.{Vector, Face, minus, dot_of}
 use Rattle.tri_exact.specs.ProductLimits.{height_limit}
 use Rattle.bim_model.specs.Points.{shape_of}
 use Rattle.clearance.specs.Near.{FacesNear}
-use Rattle.clearance.specs.BoxContainment.{InExtent}
+use Rattle.clearance.specs.inner.BoxContainment.{InExtent}
 use Rattle.clearance.specs.declared.projections.Interval.{Interval}
 
 -- the places of the corners of t across v, from the point o on, lie in the interval

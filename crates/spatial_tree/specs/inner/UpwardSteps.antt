@@ -5,7 +5,7 @@ use Rattle.std.specs.List.Sorted.{IsStrictlyIncreasing}
 use Rattle.spatial_tree.specs.declared.step.Step.{Step}
 use Rattle.spatial_tree.specs.declared.relations.Link.{Link}
 use Rattle.spatial_tree.specs.Climbing.{HasTwo, IsNext, IsAbove}
-use Rattle.spatial_tree.specs.Onlys.{Has}
+use Rattle.spatial_tree.specs.inner.Onlys.{Has}
 
 -- where a step leads up
 abbrev pub up_in : Option Step → Option ℕ

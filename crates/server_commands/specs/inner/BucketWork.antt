@@ -6,7 +6,7 @@ use Rattle.book_history.specs.declared.replies.ReplyBody.TheVariants.{Work}
 use Rattle.book_history.specs.Orders.{OrderValue}
 use Rattle.book_history.specs.Requests.{reply_of}
 use Rattle.bim_session.specs.Works.{IsFoundFor, IsEnough, IsMore}
-use Rattle.server_commands.specs.Turns.{ServerState, with_turn, stamp_of, left_of}
+use Rattle.server_commands.specs.inner.Turns.{ServerState, with_turn, stamp_of, left_of}
 
 -- the next turn gives this bucket out
 abbrev pub GivesOut : ServerState → OrderValue → Type 0

@@ -4,7 +4,7 @@ use Rattle.std.specs.List.{slice_get}
 use Rattle.spatial_tree.specs.declared.step.Step.{Step}
 use Rattle.spatial_tree.specs.declared.mark.Mark.{Mark}
 use Rattle.spatial_tree.specs.declared.mark.Mark.TheVariants.{Looped}
-use Rattle.spatial_tree.specs.StoreyMarks.{mark_at}
+use Rattle.spatial_tree.specs.inner.StoreyMarks.{mark_at}
 
 -- the object at a place has two different containers or wholes, or comes again on its own way up
 pub record IsFaulty (steps : List Step) (marks : List Mark) (at : ℕ) : Type 0 where

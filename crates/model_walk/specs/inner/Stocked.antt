@@ -24,7 +24,7 @@ use Rattle.model_walk.specs.declared.element_sketches.Stock.{Stock}
 use Rattle.model_walk.specs.declared.set_pool.SetRows.{SetRows}
 use Rattle.model_walk.specs.declared.shape_pieces.Piece.{Piece}
 use Rattle.model_walk.specs.declared.shape_pieces.Range.{Range}
-use Rattle.model_walk.specs.PooledSets.{AreReadSets}
+use Rattle.model_walk.specs.inner.PooledSets.{AreReadSets}
 use Rattle.model_walk.specs.Sketches.{pieces_triangles, range_triangles, elements_of, IsCarried, IsSoundStock, IsRangeIn, IsNearSketch}
 use Rattle.walk_rows.specs.Pools.{pooled}
 

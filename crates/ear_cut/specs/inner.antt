@@ -1,0 +1,4 @@
+pub mod CornerFrames
+pub mod EarNotes
+pub mod Fans
+pub mod Registers

@@ -1,0 +1,5 @@
+pub mod AnyTime
+pub mod Done
+pub mod NextVersions
+pub mod Noting
+pub mod RequestSubjects

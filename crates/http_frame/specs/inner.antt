@@ -1,0 +1,4 @@
+pub mod Facts
+pub mod HeadLines
+pub mod Judged
+pub mod RequestHeads

@@ -1,0 +1,2 @@
+pub mod InstanceFaults
+pub mod SoundValues

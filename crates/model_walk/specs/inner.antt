@@ -1,0 +1,4 @@
+pub mod GuidSlots
+pub mod PooledSets
+pub mod Stocked
+pub mod SurfacePieces

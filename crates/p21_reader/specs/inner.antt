@@ -1,0 +1,4 @@
+pub mod Heading
+pub mod Tabling
+pub mod TokenReading
+pub mod ValueNesting

@@ -1,0 +1,2 @@
+pub mod SpelledTriples
+pub mod Walks

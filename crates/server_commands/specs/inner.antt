@@ -1,0 +1,3 @@
+pub mod BucketWork
+pub mod OneActor
+pub mod Turns

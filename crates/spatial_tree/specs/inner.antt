@@ -1,0 +1,4 @@
+pub mod Onlys
+pub mod StoreyMarks
+pub mod TreeFaults
+pub mod UpwardSteps
