@@ -49,7 +49,7 @@ need() {
         made=yes
     fi
     export DEBIAN_FRONTEND=noninteractive
-    local words=(-o DPkg::Lock::Timeout=120 -qq -y --no-install-recommends)
+    local words=(-o DPkg::Lock::Timeout=300 -qq -y --no-install-recommends)
     apt-get install "${words[@]}" "${missing[@]}" >"$WORK/apt.log" 2>&1 </dev/null ||
         { apt-get -qq update >>"$WORK/apt.log" 2>&1 </dev/null && apt-get install "${words[@]}" "${missing[@]}" >>"$WORK/apt.log" 2>&1 </dev/null; } || status=1
     [ $made = no ] || rm -f $policy
