@@ -6,11 +6,12 @@ two crates are two. Exit status 1 if there is a pair.
 
 import collections
 import itertools
+import os
 import re
 import sys
 from collections.abc import Iterator
 
-from lint.repository import all_crates, files_in, text_of
+from lint.repository import all_crates, files_below, text_of
 
 HEAD = re.compile(r"^(?:(?:abbrev|unfoldable|opaque|pub)\s+)*(?:(?:record|data)\s+)?([^\s(:{]+)")
 WORDS = re.compile(r"[\w◌'.-]+|[^\s\w]")
@@ -68,8 +69,8 @@ def normal(name: str, lines: list[str], known: dict[str, str]) -> tuple[str, ...
 def main() -> int:
     places = collections.defaultdict(list)
     for crate in all_crates():
-        for file in files_in(f"crates/{crate}/specs", ""):
-            path = f"crates/{crate}/specs/{file}"
+        for path in files_below(f"crates/{crate}/specs", ".antt"):
+            file = os.path.basename(path)
             known = declared(path)
             for name, lines in definitions(path):
                 places[normal(name, lines, known)].append((crate, file, name))

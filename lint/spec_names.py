@@ -7,7 +7,7 @@ import sys
 
 from lint.repository import all_crates, files_below
 
-IN_EVERY_CRATE = "Lib.antt"
+LISTS = ("Lib.antt", "inner.antt")
 
 
 def holders() -> dict[str, list[str]]:
@@ -16,7 +16,7 @@ def holders() -> dict[str, list[str]]:
     for crate in all_crates():
         for path in files_below(f"crates/{crate}/specs", ".antt"):
             name = os.path.basename(path)
-            if name != IN_EVERY_CRATE:
+            if name not in LISTS:
                 found.setdefault(name, []).append(crate)
     return found
 

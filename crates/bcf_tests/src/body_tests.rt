@@ -1,5 +1,5 @@
-//! Bodies are read and written, against texts worked out by hand. Many more are told apart by
-//! `bench/bcf_bodies`.
+//! Bodies are read and written, against texts worked out by hand. Many more are end-to-end
+//! cases.
 ghost use Rattle.std.specs.Prelude.{IfOk};
 ghost use Rattle.bcf_viewpoints.specs.Viewpoints.{IsViewBody};
 

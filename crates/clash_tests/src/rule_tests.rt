@@ -1,5 +1,5 @@
-//! Rules are read where there is memory, and decide. The rules and faults of many texts are told apart by
-//! `bench/clash_rules`.
+//! Rules are read where there is memory, and decide. Many texts, their rules and their faults, are end-to-end
+//! cases.
 use bim_model::{Element, Guid, Items, Rules, Text};
 use clash_rules::{RuleError, RuleFault, from_json, rule_of};
 use serde_json::Value;

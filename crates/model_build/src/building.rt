@@ -42,7 +42,7 @@ fn build_exchange(alloc: Global, exchange: Exchange, mode: Mode) -> Result<Model
 }
 
 /// The model that the bytes of a file make (IFC4 ADD2 TC1, in the clear text encoding of ISO 10303-21): its elements that have a body, with
-/// their surfaces in millimetres. A fault is that of the first check that finds one, in it the one with the least place or number. Lengths
+/// their surfaces in grid numbers. A fault is that of the first check that finds one, in it the one with the least place or number. Lengths
 /// off the grid are refused in exact mode, and rounded in snap mode.
 pub fn build(alloc: Global, bytes: &[u8], mode: Mode) -> Result<Model, BuildError>
     ensures model { IfOk result (λ model. Profile bytes.now mode (Ok model)) }

@@ -8,7 +8,6 @@ use Rattle.std.proofs.lemmas.List.{length-append}
 use Rattle.p21_lexer.specs.declared.token.TokenKind.{TokenKind}
 use Rattle.p21_lexer.specs.declared.token.TokenKind.TheVariants as tokens
 use Rattle.p21_lexer.specs.Spelling.{Spells}
-use Rattle.p21_values.specs.Lexemes.{inner}
 use Rattle.p21_values.proofs.Contents.{keyword_ascii}
 
 -- a keyword's bytes in upper case

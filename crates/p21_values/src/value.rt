@@ -19,7 +19,7 @@ pub enum Value21 {
     Bits(Bytes),
     /// The instance of that name.
     Reference(u64),
-    /// Values in parentheses. They lie in a block of their own, so that a value takes 24 bytes; contracts see it as their list.
+    /// Values in parentheses. They lie in a block of their own; contracts see it as their list.
     List(Boxed<sqlite_items::Items<Value21>>),
     /// A keyword, in upper case, and a value in parentheses.
     Typed(Boxed<Text>, Boxed<Value21>),
