@@ -101,10 +101,10 @@ upper : (f l i d : ℤ) (k : ℕ) → (l -ℤ f) ≡ d → i ≡ f +ℤ pos k �
 upper f l i (pos n) k e g h = omega (arith, ints)
 upper f l i (negsuc n) k e g h = absurd (omega (arith, ints))
 
-low_in : (low : ℤ) → unsigned_abs low ≤ 8000000 → (pos 0 -ℤ pos 8000000 -ℤ pos 1000) ≤ℤ (low -ℤ pos 1000)
+low_in : (low : ℤ) → unsigned_abs low ≤ 8000000 → (pos 0 -ℤ pos 8000000 -ℤ pos 10000) ≤ℤ (low -ℤ pos 10000)
 low_in low h = omega (arith, ints)
 
-high_in : (high : ℤ) → unsigned_abs high ≤ 8000000 → (high +ℤ pos 1000) ≤ℤ (pos 8000000 +ℤ pos 1000)
+high_in : (high : ℤ) → unsigned_abs high ≤ 8000000 → (high +ℤ pos 10000) ≤ℤ (pos 8000000 +ℤ pos 10000)
 high_in high h = omega (arith, ints)
 
 chain : (a b c : ℤ) → a ≤ℤ b → b ≤ℤ c → a ≤ℤ c
