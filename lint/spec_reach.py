@@ -1,10 +1,10 @@
-"""Shows files of specs/ that are in the wrong room: python3 -m lint.spec_reach [--list]. specs/ says
-what is meant: each of its files has a definition that an exported contract reaches. specs/inner/
-holds what mirrors the code: none of its files has one. Exported is what the root file of a crate
-makes public: functions and laws by their clauses, traits, and types by their fields, invariants and
-views, and those of the types of their fields. Reached is what such a clause names, and what a
-definition names that is reached. Reads text only. --list prints all definitions that aren't reached.
-Exit status 1 if a file is in the wrong room.
+"""Shows files of specs/ that are in the wrong room: python3 -m lint.spec_reach [--list]. specs/
+says what is meant: each of its files has a definition that an exported contract reaches.
+specs/inner/ holds what mirrors the code: none of its files has one. Exported is what the root file
+of a crate makes public: functions and laws by their clauses, traits, and types by their fields,
+invariants and views, and those of the types of their fields. Reached is what such a clause names,
+and what a definition names that is reached. Reads text only. --list prints all definitions that
+aren't reached. Exit status 1 if a file is in the wrong room.
 """
 
 import argparse
@@ -111,8 +111,8 @@ class Reach:
         self.texts: dict[str, Text] = {}
         self.spec_imports: dict[str, Imports] = {}
         self.inner_names: dict[str, dict[str, int]] = {}
-        for crate in self.crates:
-            for path in files_below(f"crates/{crate}/specs", ".antt"):
+        for name in self.crates:
+            for path in files_below(f"crates/{name}/specs", ".antt"):
                 if os.path.basename(path) not in ("Lib.antt", "inner.antt"):
                     self.read_spec(path)
         self.reached: set[Definition] = set()
@@ -224,7 +224,9 @@ def main() -> int:
         if is_inner and len(unreached) < len(text.names):
             found.append(f"{text.path}: an exported contract reaches it: it belongs in specs/")
         elif not is_inner and len(unreached) == len(text.names):
-            found.append(f"{text.path}: no exported contract reaches it: it belongs in specs/inner/")
+            found.append(
+                f"{text.path}: no exported contract reaches it: it belongs in specs/inner/"
+            )
     for line in found:
         print(line)
     total = sum(len(text.names) for text in reach.texts.values())
