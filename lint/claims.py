@@ -9,7 +9,7 @@ import sys
 from collections.abc import Iterator
 from dataclasses import dataclass
 
-from lint.repository import files_in, text_of
+from lint.repository import files_below, text_of
 
 PAGE = "docs/CLAIMS.md"
 SPAN = re.compile(r"\(((?:`\w+`(?:, )?)+)\)|`([\w:]+)`")
@@ -52,8 +52,8 @@ def names_of(crate: str) -> Names:
     declared: set[str] = set()
     clauses: set[str] = set()
     for folder, ending in (("src", ".rt"), ("specs", ".antt")):
-        for file in files_in(f"crates/{crate}/{folder}", ending):
-            text = text_of(f"crates/{crate}/{folder}/{file}")
+        for path in files_below(f"crates/{crate}/{folder}", ending):
+            text = text_of(path)
             declared.update(re.findall(r"\b(?:fn|struct|enum|trait|type|record|ghost) (\w+)", text))
             declared.update(re.findall(r"^(?:pub |abbrev |unfoldable )*(\w+) :", text, re.M))
             clauses.update(re.findall(r"\bensures (\w+) ", text))

@@ -95,7 +95,8 @@ class Text:
         parts = path.removeprefix("crates/").removesuffix(".antt").split(os.sep)
         self.crate = parts[0]
         self.module = "Rattle." + ".".join(parts) if path.endswith(".antt") else None
-        self.is_answer = len(parts) > 3  # of one function: what is farther in are fields of answers
+        # of one function: what is farther in are fields of answers
+        self.is_answer = parts[1] == "proofs" and len(parts) > 3
         self.names = self.find_names() if self.module else []
 
     def find_names(self) -> list[Name]:
