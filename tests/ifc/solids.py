@@ -20,9 +20,8 @@ def corners_of(low: Corner, sides: Corner) -> list[Corner]:
     ]
 
 
-def drawn_boxes(count: int) -> Iterator[tuple[Corner, Corner]]:
-    """The lowest corners and the sides of boxes in a building of 40 by 40 by 12 metres, always the
-    same."""
+def drawn_boxes(count: int, room: Corner) -> Iterator[tuple[Corner, Corner]]:
+    """The lowest corners and the sides of boxes in a building of that size, always the same."""
     state = 1
     for _ in range(count):
         drawn = []
@@ -30,7 +29,7 @@ def drawn_boxes(count: int) -> Iterator[tuple[Corner, Corner]]:
             state = (state * 6364136223846793005 + 1442695040888963407) % 2**64
             drawn.append(state >> 33)
         a, b, c = (100 + number % 900 for number in drawn[3:])
-        yield (drawn[0] % 40000, drawn[1] % 40000, drawn[2] % 12000), (a, b, c)
+        yield (drawn[0] % room[0], drawn[1] % room[1], drawn[2] % room[2]), (a, b, c)
 
 
 def chained(number: int, element: int, depth: int) -> str:
@@ -43,11 +42,11 @@ def chained(number: int, element: int, depth: int) -> str:
     )
 
 
-def boxes(count: int, depth: int = 0) -> bytes:
-    """So many boxes; each placed at the end of a chain of so many placements, where the depth isn't
-    0."""
+def boxes(count: int, depth: int = 0, room: Corner = (40000, 40000, 12000)) -> bytes:
+    """So many boxes in a building of that size; each placed at the end of a chain of so many
+    placements, where the depth isn't 0."""
     parts = []
-    for element, (low, sides) in enumerate(drawn_boxes(count)):
+    for element, (low, sides) in enumerate(drawn_boxes(count, room)):
         k, guid = 10 + element * 10, f"{element + 1:022d}"
         parts.append(points(k, corners_of(low, sides)))
         parts.append(triangles(k + 1, k, BOX, ".T."))

@@ -11,16 +11,16 @@ taken.
 
 Files are made here, of about 4 MB and boxes of 11, with --full all of 4, 11 and 28 MB, with --small
 all of 1 MB: boxes, tubes, boxes with property sets that no one follows, walls that share a shape of
-one triangle, boxes in chains of ten placements, combs as polygonal faces; boxes whose last index is
-bad, so that the upload is refused; and each FILE. What PROGRAM spends on reading is the processor's
-time of a check that is refused at a second file, less that of one which is refused at the first
-byte of a file of that size, so that both are timed from the bytes in memory; of PLAIN it is what it
-prints, times the part of its whole run that it had a processor. The least of several runs of each,
-by turns. Where PLAIN doesn't read a file, as those with placements or polygons, its speed on boxes
-of about that size is taken in its place, and no bound is asked of them. B is the least part of
-PLAIN's speed that is allowed; a file below it is measured again before it counts. P is the greatest
-peak of memory in sizes of the file, asked of files of more than 10 MB only: the peak of a program
-counts what Python had when it began it.
+one triangle, boxes in chains of ten placements, boxes in inches, combs as polygonal faces; boxes
+whose last index is bad, so that the upload is refused; and each FILE. What PROGRAM spends on
+reading is the processor's time of a check that is refused at a second file, less that of one which
+is refused at the first byte of a file of that size, so that both are timed from the bytes in
+memory; of PLAIN it is what it prints, times the part of its whole run that it had a processor. The
+least of several runs of each, by turns. Where PLAIN doesn't read a file, as those with placements,
+inches or polygons, its speed on boxes of about that size is taken in its place, and no bound is
+asked of them. B is the least part of PLAIN's speed that is allowed; a file below it is measured
+again before it counts. P is the greatest peak of memory in sizes of the file, asked of files of
+more than 10 MB only: the peak of a program counts what Python had when it began it.
 """
 
 import argparse

@@ -18,6 +18,17 @@ def chains(times: float) -> bytes:
     return solids.boxes(round(6000 * times), 10)
 
 
+def inches(times: float) -> bytes:
+    """Boxes whose lengths are whole inches."""
+    file = solids.boxes(round(8000 * times), room=(20000, 20000, 12000))
+    return file.replace(
+        b"#2=IFCUNITASSIGNMENT((#3));\n",
+        b"#2=IFCUNITASSIGNMENT((#4));\n"
+        b"#4=IFCCONVERSIONBASEDUNIT($,.LENGTHUNIT.,'INCH',#5);\n"
+        b"#5=IFCMEASUREWITHUNIT(IFCLENGTHMEASURE(25.4),#3);\n",
+    )
+
+
 def combs(times: float) -> bytes:
     return polygons.combs(min(round(165 * times), 1000), 1000)
 
@@ -52,6 +63,7 @@ KINDS: dict[str, Callable[[float], bytes]] = {
     "property_sets": property_sets,
     "shared": shared,
     "chains": chains,
+    "inches": inches,
     "combs": combs,
     "refused": refused,
 }
