@@ -11,7 +11,6 @@ use Rattle.ifc_instances.specs.declared.entity.Entity.TheVariants as entity
 use Rattle.ifc_instances.specs.EntityLookup.{is_a}
 use Rattle.p21_values.specs.Attributes.{target_at}
 use Rattle.p21_values.specs.Values.{measure_of}
-use Rattle.ifc_units.specs.declared.conversion.TheConstants.{INCH, FOOT}
 use Rattle.ifc_units.specs.Grid.{gap}
 use Rattle.ifc_units.specs.Metres.{metric_power}
 
@@ -22,8 +21,8 @@ is_about millionths x = nat_lt (gap 1000000 x (pos millionths)) (denominator x)
 -- how many tenths of a millimetre a converted unit of that length in millimetres is: those of the inch or of the foot
 unfoldable pub tenths_of : Scaled → Option ℕ
 tenths_of x =
-    if is_about (INCH * 100000) x then Some INCH
-    else (if is_about (FOOT * 100000) x then Some FOOT else None)
+    if is_about 25400000 x then Some 254
+    else (if is_about 304800000 x then Some 3048 else None)
 
 -- an instance is a measure, and its value in its unit, which is a metre with a prefix, is that length in millimetres
 pub record IsMeasure (world : List Instance) (measure : Instance) (length : Scaled) : Type 0 where
