@@ -21,6 +21,7 @@ LINTS = (
     "pages",
     "claims",
     "spec_names",
+    "version_number",
 )
 
 

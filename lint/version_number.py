@@ -1,6 +1,6 @@
-"""Shows that the number of the version is the same wherever it stands: python3 -m lint.version_number.
-It is in the line that the server prints, in the expected output of its case, in the Makefile, by
-which packages are named, in the newest heading of CHANGELOG.md, and in the names of packages in
+"""Shows that each place says the same number of the version: python3 -m lint.version_number. The
+places are the line that the server prints, a case and a test of it, the Makefile, by which packages
+are named, the newest heading of CHANGELOG.md, docs/API.md, and the names of packages in
 docs/OPERATIONS.md. Prints each place that says another number than the server, or none. Exit status
 1 if there is one.
 """
@@ -15,14 +15,16 @@ NUMBER = r"(\d+\.\d+\.\d+)"
 PLACES = (
     (SERVER, rf'VERSION_LINE: &str = "bim_server {NUMBER}\\n";'),
     ("cases/words/version/stdout", rf"bim_server {NUMBER}$"),
+    ("crates/server_tests/src/replay_tests.rt", rf'b"bim_server {NUMBER}\\n"'),
     ("Makefile", rf"^VERSION \?= {NUMBER}$"),
+    ("docs/API.md", rf"^    bim_server {NUMBER}$"),
     ("docs/OPERATIONS.md", rf"yulfrets_{NUMBER}_"),
     ("docs/OPERATIONS.md", rf"bim_server/out/bim_server {NUMBER} "),
 )
 
 
 def numbers_in() -> list[tuple[str, str]]:
-    """Each number of the version with the file that says it; an empty one where a file says none."""
+    """Each number of the version with the file that says it, an empty one if a file says none."""
     said = [
         (path, number)
         for path, form in PLACES
