@@ -22,6 +22,7 @@ LINTS = (
     "claims",
     "spec_names",
     "spec_reach",
+    "version_number",
 )
 
 

@@ -125,7 +125,7 @@ def each_of(
 
 
 def commands(tool: Tool) -> str:
-    """Each opening, read, write and allocation of `check` and `generate` fails."""
+    """Each opening, read, write and allocation of `check`, `generate` and `--help` fails."""
     folder = os.path.join(HERE, "check", "check_pipes")
     files, clashes = os.path.join(folder, "files"), read(folder, "stdout")
     to_file, to_counts = ["generate", "--count", "3", "--file"], ["generate", "--count", "3"]
@@ -142,6 +142,8 @@ def commands(tool: Tool) -> str:
     counts = each_of(tool, check, clashes, files, {"open": 4, "read": 4, "write": 5, "memory": 6})
     counts += each_of(tool, to_file, made.output, files, {"write": 5, "memory": 6})
     counts += each_of(tool, to_counts, counted.output, files, {"memory": 6})
+    text = read(os.path.join(HERE, "words", "help"), "stdout")
+    counts += each_of(tool, ["--help"], text, files, {"write": 5, "memory": 6})
     return ", ".join(counts)
 
 

@@ -1,7 +1,8 @@
 -- What the commands do and answer.
 use Rattle.std.specs.Prelude.{◌≡◌, ◌≢◌, ◌⊎◌, ℕ, List, [], ◌∷◌, if◌then◌else◌, Option, Some, None, codes}
 use Rattle.std.specs.Str.{bytes_eq}
-use Rattle.bim_io.specs.StreamViews.{ClockSeen, SinkSeen, Outside, outside}
+use Rattle.bim_io.specs.StreamViews.{ClockSeen, SinkSeen, SinkTakes, Outside, outside}
+use Rattle.bim_io.specs.Writes.{WritesLess}
 use Rattle.bim_session.specs.declared.end.SessionEnd.{SessionEnd}
 use Rattle.bim_session.specs.Replay.{Replays, stated_settings, status_of}
 use Rattle.server_commands.specs.declared.replay_words.ReplayWords.{ReplayWords}
@@ -13,6 +14,7 @@ use Rattle.batch_commands.specs.GenerateWords.{generate_words}
 use Rattle.batch_commands.specs.BatchCommands.{Checks, Generates}
 use Rattle.batch_commands.specs.PrintedOutput.{PrintsUsage, WantsMemory}
 use Rattle.bim_net.specs.Hosts.{HostSeen}
+use Rattle.server_commands.specs.declared.about.TheConstants.{HELP, VERSION_LINE}
 use Rattle.server_commands.specs.declared.serve.Ended.{Ended}
 use Rattle.server_commands.specs.ReplayWords.{replay_words}
 use Rattle.server_commands.specs.ServeWords.{serve_words}
@@ -57,26 +59,41 @@ LacksWords before after status = WantsMemory before.sink after.sink status × Re
 abbrev pub Does : Option ReplayWords → Outside → Outside → ℕ → Type 0
 Does said before after status = DoesBy said before after status ⊎ LacksWords before after status
 
+-- a text is written whole, status 0, or a front of it, since a write failed, status 5
+abbrev pub PrintsText : List ℕ → SinkSeen → SinkSeen → ℕ → Type 0
+PrintsText text old new status =
+    ((status ≡ 0) × SinkTakes old new text × (new.faults ≡ old.faults))
+    ⊎ ((status ≡ 5) × WritesLess old new text)
+
+-- a command that takes no words prints its text, and the usage line where there are some
+abbrev pub PrintsAlone : List (List ℕ) → List ℕ → SinkSeen → SinkSeen → ℕ → Type 0
+PrintsAlone [] text old new status = PrintsText text old new status
+PrintsAlone (word ∷ words) text old new status = PrintsUsage old new status
+
 -- a command other than `serve`, with the words behind its name
 pub data Command : Type 0 where
   Replay : List (List ℕ) → Command
   Check : List (List ℕ) → Command
   Generate : List (List ℕ) → Command
+  Version : List (List ℕ) → Command
+  Help : List (List ℕ) → Command
 
 -- the command of a name, where it is one of these
 abbrev pub command_named : List ℕ → List (List ℕ) → Option Command
 command_named name words =
     if bytes_eq name (codes "replay") then Some (Replay words)
     else (if bytes_eq name (codes "check") then Some (Check words)
-    else (if bytes_eq name (codes "generate") then Some (Generate words) else None))
+    else (if bytes_eq name (codes "generate") then Some (Generate words)
+    else (if bytes_eq name (codes "--version") then Some (Version words)
+    else (if bytes_eq name (codes "--help") then Some (Help words) else None))))
 
 -- the command other than `serve` that words ask for
 abbrev pub command_of : List (List ℕ) → Option Command
 command_of [] = None
 command_of (name ∷ words) = command_named name words
 
--- what a command does: `replay` leaves the files alone, `check` the source and the clock, and `generate` all three.
--- Without a command the usage line is printed.
+-- what a command does: `replay` leaves the files alone, `check` the source and the clock, and the others all three. The
+-- version and the help are constant texts. Without a command the usage line is printed.
 abbrev pub Runs : Option Command → Outside → Outside → FilesSeen → FilesSeen → ℕ → Type 0
 Runs None before after files files' status =
     PrintsUsage before.sink after.sink status × ReadsNothing before after × (files' ≡ files)
@@ -86,6 +103,12 @@ Runs (Some (Check words)) before after files files' status =
     Checks (check_words words) files files' before.sink after.sink status × ReadsNothing before after
 Runs (Some (Generate words)) before after files files' status =
     Generates (generate_words words) before.sink after.sink status × ReadsNothing before after
+    × (files' ≡ files)
+Runs (Some (Version words)) before after files files' status =
+    PrintsAlone words VERSION_LINE.now before.sink after.sink status × ReadsNothing before after
+    × (files' ≡ files)
+Runs (Some (Help words)) before after files files' status =
+    PrintsAlone words HELP.now before.sink after.sink status × ReadsNothing before after
     × (files' ≡ files)
 
 -- what words ask for: to serve by the words behind that name, or another command

@@ -6,6 +6,7 @@ ghost use Rattle.server_commands.specs.ReplayWords.{replay_words, IsReplay};
 ghost use Rattle.server_commands.specs.ServeCommand.{without_book};
 ghost use Rattle.server_commands.specs.Commands.{Does, ReplaysBy, Runs, command_of, Ends, SaysUsage, asked_by};
 
+use crate::about::{HELP, VERSION_LINE, print_alone};
 use crate::replay::{replay_session, status_of};
 use crate::replay_words::{ReplayWords, Time, replay_words};
 use crate::serve::{Ended, run_serve};
@@ -110,6 +111,10 @@ fn run_other<S: Source, K: Sink, F: Files, C: Clock>(
                 run_check(alloc, rest, files, sink)
             } else if is_word(name.as_str(), "generate") {
                 run_generate(alloc, rest, sink)
+            } else if is_word(name.as_str(), "--version") {
+                print_alone(rest, VERSION_LINE, sink)
+            } else if is_word(name.as_str(), "--help") {
+                print_alone(rest, HELP, sink)
             } else {
                 print_usage(sink)
             }

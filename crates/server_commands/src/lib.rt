@@ -1,7 +1,8 @@
 //! The commands of the server: `replay` over a recorded session, `serve` over doors, and `run`, which does what a
-//! command line asks for.
+//! command line asks for, also to print the version or the help.
 #![tactic(auto)]
 
+mod about;
 mod alone;
 mod commands;
 mod one_thread;

@@ -260,6 +260,9 @@ fn words_outside_the_grammar_print_the_usage(rt: HostRuntime) -> Result<(), Fail
     )?;
     assert_words(&rt, alloc, &["serve"], 0, b"")?;
     assert_words(&rt, alloc, &["serve", "--lanes", "33"], 2, usage)?;
+    assert_words(&rt, alloc, &["--version"], 0, b"bim_server 0.9.0\n")?;
+    assert_words(&rt, alloc, &["--version", "serve"], 2, usage)?;
+    assert_words(&rt, alloc, &["--help", "serve"], 2, usage)?;
     assert_words(&rt, alloc, &[], 2, usage)
 }
 
