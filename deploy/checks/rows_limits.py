@@ -21,11 +21,16 @@ def body_of_32_mib(front: Front) -> None:
 
 
 def refused_by_nginx(front: Front, count: int) -> None:
-    """The last requests of the log were answered 413, and the server wasn't asked."""
-    time.sleep(0.1)
-    lines = (front.folder / "access.log").read_text().splitlines()[-count:]
-    for line in lines:
-        must(" 413 " in line and "server=-/-" in line, f"not refused by nginx: {line}")
+    """The last requests of the log were answered 413, and the server wasn't asked. nginx writes
+    their lines once it is done with them, which takes a while on a busy machine."""
+    end = time.monotonic() + 10
+    while True:
+        lines = (front.folder / "access.log").read_text().splitlines()[-count:]
+        others = [it for it in lines if " 413 " not in it or "server=-/-" not in it]
+        if not others or time.monotonic() > end:
+            break
+        time.sleep(0.1)
+    must(not others, f"not refused by nginx: {others[:1]}")
 
 
 def body_of_32_mib_and_one(front: Front) -> None:
