@@ -25,7 +25,7 @@ from tests.case_files import HERE, all_cases, chosen, input_of, read
 from tests.oracle.__main__ import answered, is_known
 from tests.oracle.faults import Tree
 from tests.oracle.framing import read_body, read_request
-from tests.oracle.model_file.lengths import PER_MM
+from tests.oracle.model_file.lengths import PER_MM, PREFIXES
 
 LENGTH = re.compile(rb"(?i)Content-Length: \d+")
 TOLERANCE = Fraction(1, 1000)
@@ -34,16 +34,7 @@ POINTS = re.compile(rb"=IFCCARTESIANPOINT(?:LIST3D)?\(([^;]*)\);")
 BLANK = re.compile(rb"\s|/\*.*?\*/", re.DOTALL)
 NUMBER = re.compile(rb"[+-]?\d+\.?\d*(?:E[+-]?\d+)?", re.IGNORECASE)
 UNIT = re.compile(rb"IFCSIUNIT\([$*],\.LENGTHUNIT\.,(?:[$*]|\.(\w+)\.),\.METRE\.\)")
-POWERS = {
-    b"": 3,
-    b"KILO": 6,
-    b"HECTO": 5,
-    b"DECA": 4,
-    b"DECI": 2,
-    b"CENTI": 1,
-    b"MILLI": 0,
-    b"MICRO": -3,
-}
+POWERS = {prefix or b"": power for prefix, power in PREFIXES.items()}
 
 
 def spelled(tree: Tree) -> bytes:

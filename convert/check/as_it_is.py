@@ -17,6 +17,7 @@ from typing import Callable, Optional, Sequence
 
 from cases import CORNERS, FACES, point_list, with_front
 from model import METRE, MILLIMETRE, Model, conversion, listed
+from rows import run_rows
 from served import Answer, answers, boxes_of
 
 # A block of one unit, moved by the place of its least corner.
@@ -199,15 +200,7 @@ def main() -> int:
     for path in sorted((folder / "cases").glob("*.out.ifc")):
         source = path.with_name(path.name.replace(".out.ifc", ".ifc"))
         checks[f"case {source.stem}"] = lambda source=source: check_case(server, source)  # type: ignore[misc]
-    failed = 0
-    for name, check in checks.items():
-        try:
-            check()
-        except AssertionError as error:
-            failed += 1
-            print(f"FAILED as it is, {name}: {error}")
-    print(f"as it is: {len(checks) - failed} passed, {failed} failed")
-    return 1 if failed else 0
+    return run_rows("as it is", checks)
 
 
 if __name__ == "__main__":

@@ -14,6 +14,7 @@ import sys
 from pathlib import Path
 from typing import Callable
 
+from rows import run_rows
 from written import Element, read
 
 # A gable's wall: its plan is a trapezium 12 + 2 y wide from y = -0.3 to 0 (metres), its top slopes by 30 degrees and
@@ -121,15 +122,7 @@ def main() -> int:
         "bytes": lambda: check_bytes(program, source, folder, folder / "house.ifc"),
         "split": lambda: check_split(program, source, folder, whole),
     }
-    failed = 0
-    for name, check in checks.items():
-        try:
-            check()
-        except AssertionError as error:
-            failed += 1
-            print(f"FAILED house, {name}: {error}")
-    print(f"house: {len(checks) - failed} passed, {failed} failed")
-    return 1 if failed else 0
+    return run_rows("house", checks)
 
 
 if __name__ == "__main__":

@@ -9,6 +9,7 @@ import sys
 from pathlib import Path
 
 from model import Model
+from rows import run_rows
 from written import read
 
 
@@ -164,15 +165,7 @@ def main() -> int:
         words.storeys,
         words.never_ending,
     ]
-    failed = 0
-    for check in checks:
-        try:
-            check()
-        except AssertionError as error:
-            failed += 1
-            print(f"FAILED words, {check.__name__}: {error}")
-    print(f"words: {len(checks) - failed} passed, {failed} failed")
-    return 1 if failed else 0
+    return run_rows("words", {check.__name__: check for check in checks})
 
 
 if __name__ == "__main__":
