@@ -17,3 +17,5 @@ pub mod Points
 pub mod Near
 pub mod Counted
 pub mod OneList
+pub mod Blocks
+pub mod Skipped

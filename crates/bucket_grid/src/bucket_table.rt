@@ -72,9 +72,14 @@ fn add_column(
         ≡ buckets.old ++ column spans.now low (length lists.old) numbers.now) }
     ensures count { OnOk result (length lists.new ≡ length lists.old) }
 {
+    if numbers.len() < 2 {
+        return Ok(());
+    }
     deal(lists, numbers, spans)?;
-    for place in 0..lists.count() {
+    let mut place = lists.next(0);
+    while place < lists.count() {
         buckets.add(with_z(low, place), lists.get(place))?;
+        place = lists.next(place + 1);
     }
     Ok(())
 }
@@ -107,10 +112,15 @@ fn add_slab(
     ensures count_y { OnOk result (length ys.new ≡ length ys.old) }
     ensures count_z { OnOk result (length zs.new ≡ length zs.old) }
 {
+    if numbers.len() < 2 {
+        return Ok(());
+    }
     deal(ys, numbers, axes.y.as_slice())?;
-    for place in 0..ys.count() {
+    let mut place = ys.next(0);
+    while place < ys.count() {
         let column = with_y(low, place);
         add_column(column, ys.get(place), axes.z.as_slice(), zs, buckets)?;
+        place = ys.next(place + 1);
     }
     Ok(())
 }
@@ -142,9 +152,11 @@ pub fn table_of(
     let mut zs = Lists::of(alloc, counts.2)?;
     let mut buckets = Buckets::with_room(alloc, memberships)?;
     deal(&mut xs, numbers, axes.x.as_slice())?;
-    for place in 0..xs.count() {
+    let mut place = xs.next(0);
+    while place < xs.count() {
         let slab = with_x(low, place);
         add_slab(slab, xs.get(place), axes, &mut ys, &mut zs, &mut buckets)?;
+        place = xs.next(place + 1);
     }
     buckets.finish(alloc)
 }

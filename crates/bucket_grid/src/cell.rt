@@ -22,10 +22,10 @@ pub const SIDE: i32 = 4_000 * PER_MM;
 pub const GROWTH: i32 = 1_000 * PER_MM;
 
 /// How far from zero the number of a cell that holds a box may lie on an axis.
-pub const FARTHEST_CELL: i32 = 2_100;
+pub const FARTHEST_CELL: i32 = 201;
 
 /// The most cells of an axis that hold boxes: from the farthest one below zero to the farthest above.
-pub const MOST_CELLS: u64 = 4_201;
+pub const MOST_CELLS: u64 = 403;
 
 // The cell of a coordinate. Zero is moved up, so that no coordinate with its growth is below zero: numbers without a sign are divided in a
 // third of the time.

@@ -1,9 +1,12 @@
 //! Several lists of numbers, used again and again.
-ghost use Rattle.std.specs.Prelude.{◌≡◌, ℕ, ◌+◌, ◌<◌, ◌≤◌, ◌++◌, ◌∷◌, [], List, length, slice_index_or, slice_set, take, filter, IfOk, OnOk, All};
+ghost use Rattle.std.specs.Prelude.{◌≡◌, ℕ, ◌+◌, ◌*◌, ◌/◌, ◌^◌, ◌<◌, ◌≤◌, ◌++◌, ◌∷◌, [], true, List, length, slice_index_or, slice_set, take, filter, IfOk, OnOk, All};
 ghost use Rattle.bucket_grid.specs.Dealt.{covers, span_at, AreDealt, IsAmong};
 
 use std::alloc::{AllocError, Global};
 use std::marker::Model;
+
+/// So many lists, one after the other, are a block.
+const BLOCK: usize = 16;
 
 /// The numbers from `first` to `last`: the cells of one axis that hold a box.
 #[derive(Clone, Copy, Debug, PartialEq, Eq)]
@@ -12,18 +15,23 @@ pub struct Span {
     pub last: u32,
 }
 
-/// Lists of numbers, which keep their room when they are emptied.
+/// Lists of numbers, which keep their room when they are emptied. A block of them is marked where one of its lists may
+/// have a number, so that the others are passed over at once.
 #[derive(Drop)]
 pub struct Lists {
     lists: Vec<Vec<u32>>,
+    marks: Vec<bool>,
 }
 
 impl Model for Lists {
     ghost use Rattle.std.specs.Prelude.{List, ℕ, map};
+    ghost use Rattle.bucket_grid.specs.inner.ListBlocks.{AreMarked};
 
     ghost Value = { List (List ℕ) };
 
     ghost view = { λ l. map (λ v. v.items) l.lists.items };
+
+    ghost invariant = { λ l. AreMarked (map (λ v. v.items) l.lists.items) l.marks.items };
 }
 
 impl Lists {
@@ -35,7 +43,8 @@ impl Lists {
         for _ in 0..count {
             lists.push(Vec::new(alloc))?;
         }
-        Ok(Lists { lists })
+        let marks = all_marked(alloc, count / BLOCK + 1)?;
+        Ok(Lists { lists, marks })
     }
 
     /// How many lists there are.
@@ -50,8 +59,17 @@ impl Lists {
         ensures count { length self.new ≡ length self.old }
         ensures empty { (k : ℕ) → slice_index_or self.new k [] ≡ [] }
     {
-        for place in 0..self.lists.len() {
-            self.lists[place].clear();
+        let mut place = 0;
+        while place < self.lists.len() {
+            if self.marks[place / BLOCK] {
+                self.lists[place].clear();
+                place += 1;
+            } else {
+                place = block_end(place);
+            }
+        }
+        for block in 0..self.marks.len() {
+            self.marks[block] = false;
         }
     }
 
@@ -61,6 +79,7 @@ impl Lists {
         ensures { OnOk result (self.new
             ≡ slice_set self.old list (slice_index_or self.old list [] ++ number ∷ [])) }
     {
+        self.marks[list / BLOCK] = true;
         self.lists[list].push(number)?;
         Ok(())
     }
@@ -72,6 +91,44 @@ impl Lists {
     {
         self.lists[list].as_slice()
     }
+
+    /// The place from `from` on before which all lists are empty: that of the next list of a marked block, or the
+    /// number of lists.
+    pub fn next(&self, from: usize) -> usize
+        requires { from ≤ length self.now }
+        ensures from { from ≤ result }
+        ensures end { result ≤ length self.now }
+        ensures empty { (k : ℕ) → from ≤ k → k < result → slice_index_or self.now k [] ≡ [] }
+    {
+        let mut place = from;
+        while place < self.lists.len() {
+            if self.marks[place / BLOCK] {
+                return place;
+            }
+            place = block_end(place);
+        }
+        self.lists.len()
+    }
+}
+
+// So many blocks, all marked.
+fn all_marked(alloc: Global, count: usize) -> Result<Vec<bool>, AllocError>
+    ensures count { IfOk result (λ made. length made.items ≡ count) }
+    ensures marked { IfOk result (λ made. (b : ℕ) → slice_index_or made.items b true ≡ true) }
+{
+    let mut marks = Vec::with_capacity(alloc, count)?;
+    for _ in 0..count {
+        marks.push(true)?;
+    }
+    Ok(marks)
+}
+
+// The place after the block of a place.
+fn block_end(place: usize) -> usize
+    requires { place < 2 ^ 63 }
+    ensures { result ≡ place / 16 * 16 + 16 }
+{
+    place / BLOCK * BLOCK + BLOCK
 }
 
 /// Deals the numbers: each into the lists of its span, in their order.
