@@ -13,7 +13,7 @@ import sys
 from collections.abc import Callable
 from functools import partial
 
-from tests.hostile.bodies import at_limits, bodies, listed, wanting
+from tests.hostile.bodies import at_limits, bodies, listed, spread, wanting
 from tests.hostile.connections import cuts, never_read, resets
 from tests.hostile.flood import Flood
 from tests.hostile.heads import drip, heads, lengths, odd, pipelined
@@ -34,6 +34,7 @@ ALL: list[Callable[[Flood], str]] = [
     bodies,
     at_limits,
     listed,
+    spread,
     wanting,
 ]
 ROWS = {row.__name__: row for row in ALL}

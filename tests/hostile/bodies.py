@@ -7,7 +7,7 @@ from functools import partial
 from tests import oracle
 from tests.hostile.flood import MIB, Flood, beside, bounded
 from tests.ifc.basics import small_pipes
-from tests.ifc.crowds import long_name
+from tests.ifc.crowds import long_name, plates
 from tests.ifc.limits import with_instances, with_values
 from tests.ifc.polygons import listed_faces
 from tests.support.checks import expect
@@ -150,6 +150,27 @@ def listed(flood: Flood, lanes: int = 3) -> str:
         size = server.memory()
         server.stop()
     return f"{len(file) / 1000:.0f} KB, {others}, {size / MIB:.0f} MiB"
+
+
+def spread(flood: Flood, lanes: int = 3) -> str:
+    """Elements at the ends of the greatest model: two small ones at opposite corners, and two
+    plates as wide as it is, one at its foot and one at its head. The cells between them, which hold
+    nothing, cost nothing: each upload takes the processor for less than its bound."""
+    corners = [(10, f"{1:022}", "a", (-799_000,) * 3), (20, f"{2:022}", "b", (799_000,) * 3)]
+    files = {"corners": (small_pipes(*corners), 0.01), "plates": (plates(-798_000, 798_000), 0.15)}
+    said, times = [], flood.much(20, 200)
+    with Server(flood.program, lanes=lanes) as server:
+        with Client(server) as client:
+            for what, (file, bound) in files.items():
+                began = server.spent()
+                for _ in range(times):
+                    it = client.ask("PUT", f"{MODELS}/a", file)
+                    expect(it.status in (200, 201), f"{it.status} {it.reply[:80]!r}")
+                took = (server.spent() - began) / times
+                expect(took < bound, f"{what}: {took * 1000:.1f} ms, more than {bound * 1000:.0f}")
+                said.append(f"{what} {took * 1000:.1f} ms")
+        server.stop()
+    return ", ".join(said)
 
 
 def at_limits(flood: Flood, lanes: int = 3) -> str:

@@ -166,3 +166,15 @@ def sharing(sets: int, count: int) -> bytes:
         body_of(6, ",".join(f"#{1000 + n}" for n in range(sets))),
         pipes(1, 8),
     )
+
+
+def plates(*heights: int) -> bytes:
+    """A pipe of one triangle for each height, whose legs are as long as a model may be wide."""
+    side = 799_000
+    parts = []
+    for n, height in enumerate(heights):
+        at = 10 + 10 * n
+        corners = [(-side, -side, height), (side, -side, height), (-side, side, height)]
+        parts += [points(at, corners), triangles(at + 1, at, "(1,2,3)")]
+        parts += [body_of(at + 2, f"#{at + 1}"), pipe(at + 4, f"{n:022}", of=at + 3)]
+    return file_of(*parts)

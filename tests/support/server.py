@@ -111,6 +111,12 @@ class Server:
         self.run.send_signal(signal.SIGTERM)
         expect(self.status(20) == -signal.SIGTERM, f"status {self.run.returncode}")
 
+    def spent(self) -> float:
+        """The seconds of a processor that the server has taken so far."""
+        with open(f"/proc/{self.run.pid}/stat", encoding="ascii") as it:
+            ticks = it.read().rpartition(")")[2].split()[11:13]
+        return sum(map(int, ticks)) / os.sysconf("SC_CLK_TCK")
+
     def memory(self, which: str = "VmHWM") -> int:
         """The most memory that the server has taken so far, or takes now (VmRSS), in bytes."""
         with open(f"/proc/{self.run.pid}/status", encoding="ascii") as file:

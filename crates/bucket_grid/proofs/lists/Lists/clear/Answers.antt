@@ -1,16 +1,15 @@
-use Rattle.std.proofs.Common.{arith, sym, ◌∙◌}
+use Rattle.std.proofs.Common.{arith, ◌∙◌}
 use Rattle.std.proofs.lemmas.List.{length-set}
-use Rattle.bucket_grid.proofs.Nested.{cleared_more, cleared_all}
+use Rattle.bucket_grid.proofs.Nested.{cleared_more}
+use Rattle.bucket_grid.proofs.Blocks.{still_marked}
 use Rattle.bucket_grid.proofs.lists.Lists.clear.Goals as goal
 
-pub returns-clause-empty : goal.returns-clause-empty
-returns-clause-empty c = cleared_all (λ v. v.items) c.loop-place.self-inside.lists.items c.loop-place.place (omega (arith, c.loop-place.invariant.end)) c.loop-place.invariant.empty
-
-pub loop-place-preserved : goal.loop-place-preserved
-loop-place-preserved c =
-    let same = length-set c.loop-place.self-inside.lists.items c.loop-place.place c.clear.new.self in
+pub loop-place-preserved-then-index : goal.loop-place-preserved-then-index
+loop-place-preserved-then-index c =
+    let lists = c.loop-place.self-inside.lists.items in
+    let place = c.loop-place.place in
     record {
-      count = same ∙ c.loop-place.invariant.count;
-      end = c.loop-place.invariant.end ∙ sym same;
-      empty = cleared_more (λ v. v.items) c.loop-place.self-inside.lists.items c.loop-place.place c.clear.new.self (omega (arith, c.loop-place.invariant.end)) c.clear.ensures.items c.loop-place.invariant.empty;
+      count = length-set lists place c.clear.new.self ∙ c.loop-place.invariant.count;
+      marked = still_marked (λ v. v.items) lists c.loop-place.self-inside.marks.items place c.clear.new.self (omega (arith, c.loop-place-test.true)) c.clear.ensures.items c.loop-place.invariant.marked;
+      empty = cleared_more (λ v. v.items) lists place c.clear.new.self (omega (arith, c.loop-place-test.true)) c.clear.ensures.items c.loop-place.invariant.empty;
     }
