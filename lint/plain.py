@@ -1,6 +1,6 @@
-"""Shows that the pages are plain English and laid out alike: python3 -m lint.plain. Prints words for
-which a plainer one is usual, sentences of more than 40 words, and pages that python3 -m lint.wrap
-would change. Code and what is between backticks isn't looked at. Exit status 1 if there is any.
+"""Shows that the pages are plain English and laid out alike: python3 -m lint.plain. Prints words
+for which a plainer one is usual, sentences of more than 40 words, and pages that lint.wrap would
+change. Code and what is between backticks isn't looked at. Exit status 1 if there is any.
 """
 
 import re
