@@ -19,6 +19,7 @@ LINTS = (
     "docstrings",
     "edits",
     "pages",
+    "plain",
     "claims",
     "spec_names",
     "spec_reach",

@@ -12,7 +12,7 @@ from collections.abc import Iterator
 from lint.repository import TOP, files_below, text_of
 
 TOP_PAGES = ("README.md", "CONTRIBUTING.md", "CHANGELOG.md")
-FOLDERS = ("bench", "cases", "tests", "lint")
+FOLDERS = ("bench", "cases", "tests", "lint", "deploy", "api_check")
 MOST_LINES = 150
 MOST_IN_A_PARAGRAPH = 6
 

@@ -19,7 +19,6 @@ PLACES = (
     ("Makefile", rf"^VERSION \?= {NUMBER}$"),
     ("docs/API.md", rf"^    bim_server {NUMBER}$"),
     ("docs/OPERATIONS.md", rf"yulfrets_{NUMBER}_"),
-    ("docs/OPERATIONS.md", rf"bim_server/out/bim_server {NUMBER} "),
 )
 
 

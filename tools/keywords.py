@@ -9,6 +9,7 @@ other factors, by rising sums, and prints the first that serve: they are then wr
 and into `hash` by hand, and the script is run again.
 """
 
+import argparse
 import itertools
 import re
 import sys
@@ -57,6 +58,9 @@ def rows(table: list[int]) -> str:
 
 
 def main() -> int:
+    parser = argparse.ArgumentParser(description="Makes the tables of ifc_keywords anew.")
+    parser.add_argument("--search", action="store_true", help="looks for other factors")
+    asked = parser.parse_args()
     said = CODES.read_text()
     words = re.findall(r'codes "(\w+)"', said)
     found = re.search(
@@ -64,7 +68,7 @@ def main() -> int:
     )
     assert found
     factors = tuple(int(it) for it in found.groups())
-    if "--search" in sys.argv[1:]:
+    if asked.search:
         print("factors", search(words))
         return 0
     text = WORDS.read_text()
