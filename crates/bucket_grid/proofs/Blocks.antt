@@ -1,22 +1,11 @@
--- Lists in blocks with marks: what clearing and adding keep, and what a block without a mark says.
-use Rattle.std.proofs.Common.{◌≡◌, ℕ, ◌+◌, ◌*◌, ◌/◌, ◌<◌, ◌≤◌, ◌⊎◌, inl, inr, Bool, true, false, List, [], length, get_or, set, map, sym, ap, arith, ◌∙◌}
+-- Lists in blocks with marks: what clearing and adding keep.
+use Rattle.std.proofs.Common.{◌≡◌, ℕ, ◌/◌, ◌<◌, ◌⊎◌, inl, inr, Bool, true, false, List, [], length, get_or, set, map, sym, ap, arith, ◌∙◌}
 use Rattle.std.proofs.lemmas.Bool.{cases_eq, false≢true}
-use Rattle.std.proofs.lemmas.List.{map-set, length-map, length-set, get_or-set_same, get_or-set_other, get_or_default}
+use Rattle.std.proofs.lemmas.List.{map-set, length-map, length-set, get_or-set_same, get_or-set_other}
 use Rattle.bucket_grid.specs.inner.ListBlocks.{AreMarked}
 
 true_false : {A : Type 0} → true ≡ false → A
 true_false e = absurd (false≢true (sym e))
-
--- marks that are all set say nothing
-pub all_set : (lists : List (List ℕ)) (marks : List Bool) → length lists ≤ length marks * 16 → ((b : ℕ) → get_or marks b true ≡ true) → AreMarked lists marks
-all_set lists marks enough h = record {
-  enough = enough;
-  empty = λ k e. true_false (sym (h (k / 16)) ∙ e);
-}
-
--- lists that are all empty need no mark
-pub all_empty : (lists : List (List ℕ)) (marks : List Bool) → length lists ≤ length marks * 16 → ((k : ℕ) → get_or lists k [] ≡ []) → AreMarked lists marks
-all_empty lists marks enough h = record { enough = enough; empty = λ k e. h k }
 
 module _ {V : Type 0} (f : V → List ℕ) where
   emptied : (l : List V) (i k : ℕ) (new : V) → i < length l → f new ≡ [] → get_or (map f l) k [] ≡ [] → (k ≡ i) ⊎ (k ≡ i → ⊥) → get_or (set (map f l) i (f new)) k [] ≡ []
@@ -42,13 +31,3 @@ module _ {V : Type 0} (f : V → List ℕ) where
         let u = unmarked marks (i / 16) (k / 16) (omega (arith, m.enough, length-map l f)) clear (cases_eq (k / 16) (i / 16)) in
         ap (λ x. get_or x k []) (map-set f l i new) ∙ get_or-set_other (map f l) i k (f new) [] (λ e. u.0 (ap (λ n. n / 16) e)) ∙ m.empty k u.1;
   }
-
--- the lists of a block without a mark are empty, from a place of it on
-pub passed : (lists : List (List ℕ)) (marks : List Bool) (from place k : ℕ) (b : Bool) → AreMarked lists marks → b ≡ get_or marks (place / 16) b → place / 16 < length marks → b ≡ false
-    → ((k : ℕ) → from ≤ k → k < place → get_or lists k [] ≡ []) → from ≤ k → k < place / 16 * 16 + 16 → (k < place) ⊎ (place ≤ k) → get_or lists k [] ≡ []
-passed lists marks from place k b m is within e before low high (inl lt) = before k low lt
-passed lists marks from place k b m is within e before low high (inr ge) =
-    m.empty k (ap (λ n. get_or marks n true) same_block ∙ get_or_default marks (place / 16) true b within ∙ sym is ∙ e)
-  where
-    same_block : k / 16 ≡ place / 16
-    same_block = omega (arith, ge, high)

@@ -1,7 +1,7 @@
 -- Lists in a list, seen through the vectors that keep them.
-use Rattle.std.proofs.Common.{◌≡◌, ℕ, ◌+◌, ◌<◌, ◌≤◌, ◌⊎◌, inl, inr, List, [], ◌∷◌, ◌++◌, length, get_or, set, map, sym, ap, subst, arith, ◌∙◌}
-use Rattle.std.proofs.lemmas.Bool.{cases_eq, cases_lt}
-use Rattle.std.proofs.lemmas.List.{map-set, get_or-map, length-map, get_or-set_same, get_or-set_other, get_or_past}
+use Rattle.std.proofs.Common.{◌≡◌, ℕ, ◌+◌, ◌<◌, ◌⊎◌, inl, inr, List, [], ◌∷◌, ◌++◌, length, get_or, set, map, sym, ap, subst, arith, ◌∙◌}
+use Rattle.std.proofs.lemmas.Bool.{cases_eq}
+use Rattle.std.proofs.lemmas.List.{map-set, get_or-map, length-map, get_or-set_same, get_or-set_other}
 
 module _ {V : Type 0} (f : V → List ℕ) where
   pub within : (l : List V) (now : List (List ℕ)) (i : ℕ) → map f l ≡ now → i < length now → i < length l
@@ -20,10 +20,3 @@ module _ {V : Type 0} (f : V → List ℕ) where
 
   pub cleared_more : (l : List V) (i : ℕ) (new : V) → i < length l → f new ≡ [] → ((k : ℕ) → k < i → get_or (map f l) k [] ≡ []) → (k : ℕ) → k < i + 1 → get_or (map f (set l i new)) k [] ≡ []
   cleared_more l i new h e before k lt = ap (λ m. get_or m k []) (map-set f l i new) ∙ cleared_by l i k new h lt e before (cases_eq k i)
-
-  cleared_past : (l : List V) (n k : ℕ) → n ≡ length l → ((k : ℕ) → k < n → get_or (map f l) k [] ≡ []) → (k < n) ⊎ (n ≤ k) → get_or (map f l) k [] ≡ []
-  cleared_past l n k e before (inl lt) = before k lt
-  cleared_past l n k e before (inr ge) = get_or_past (map f l) k [] (omega (arith, length-map l f))
-
-  pub cleared_all : (l : List V) (n : ℕ) → n ≡ length l → ((k : ℕ) → k < n → get_or (map f l) k [] ≡ []) → (k : ℕ) → get_or (map f l) k [] ≡ []
-  cleared_all l n e before k = cleared_past l n k e before (cases_lt k n)
