@@ -41,7 +41,7 @@ fn axis_of(n: Normal) -> Axis
 }
 
 /// The component along an axis.
-fn component(axis: Axis, n: Normal) -> i64
+pub fn component(axis: Axis, n: Normal) -> i64
     ensures { result ≡ component axis (as_vector n) }
 {
     match axis {
