@@ -1,0 +1,5 @@
+pub mod Detours
+pub mod Kept
+pub mod PlacedCorners
+pub mod JoinedAreas
+pub mod SameEdges
