@@ -3,3 +3,4 @@ pub mod Kept
 pub mod PlacedCorners
 pub mod JoinedAreas
 pub mod SameEdges
+pub mod Crossings
