@@ -77,8 +77,8 @@ placed_from before [] after = refl
 placed_from before (p ∷ ps) after =
     let points = before ++ p ∷ (ps ++ after) in
     let others : ArePlaced points (corners_from (length before + 1) ps) =
-        subst (λ (n : ℕ). ArePlaced points (corners_from n ps)) (length_push before p)
-        (subst (λ (l : List Point). ArePlaced l (corners_from (length (before ++ p ∷ [])) ps)) (append_assoc before (p ∷ []) (ps ++ after)) (placed_from (before ++ p ∷ []) ps after)) in
+    subst (λ (n : ℕ). ArePlaced points (corners_from n ps)) (length_push before p)
+    (subst (λ (l : List Point). ArePlaced l (corners_from (length (before ++ p ∷ [])) ps)) (append_assoc before (p ∷ []) (ps ++ after)) (placed_from (before ++ p ∷ []) ps after)) in
     ap (λ (q : Point). q ∷ map (at_place points) (corners_from (length before + 1) ps)) (get_or_at before p (ps ++ after) nobody.point (length before) refl)
     ∙ ap (λ (l : List Point). p ∷ l) others
 
@@ -126,9 +126,11 @@ pub joined_is_placed : (points : List Point) (view : View) (n : ℕ) (current : 
     → length loops ≡ n → ArePlaced points current → LoopsArePlaced points loops → join_by view n current loops ≡ Some list → ArePlaced points list
 joined_is_placed points view n current loops list m e f h =
     (joined_keeps (λ cs ls. ArePlaced points cs × LoopsArePlaced points ls)
-    (λ cs ls b w p. (placed_joined points cs (slice_index_or ls b.hole []) b.from b.to w.from w.to p.0 (p.1 b.hole w.hole),
-    λ k l. subst (λ (c : List Corner). ArePlaced points c) (sym (taken ls b.hole k [] w.hole))
-        (p.1 (lift b.hole k) (lift_within (length ls) b.hole k (one_more k _ _ l (length-remove ls b.hole w.hole))))))
+    (λ cs ls b w p. (
+      placed_joined points cs (slice_index_or ls b.hole []) b.from b.to w.from w.to p.0 (p.1 b.hole w.hole),
+      λ k l. subst (λ (c : List Corner). ArePlaced points c) (sym (taken ls b.hole k [] w.hole))
+          (p.1 (lift b.hole k) (lift_within (length ls) b.hole k (one_more k _ _ l (length-remove ls b.hole w.hole)))),
+    ))
     view n current loops list m (e, f) h).0
   where
     one_more : (k a b : ℕ) → k < a → a + 1 ≡ b → k + 1 < b

@@ -149,7 +149,7 @@ bridge_edges view current loop b = there_and_back view (slice_index_or current b
 pub edges_joined : (view : View) (current : List Corner) (loops : List (List Corner)) (b : Bridge) → IsBridgeIn current loops b
     → AreSame (all_edges view (joined_by current loops b) (remove loops b.hole))
     (all_edges view current loops ++ segment (spot_of view (slice_index_or current b.from nobody)) (spot_of view (slice_index_or (slice_index_or loops b.hole []) b.to nobody))
-        ∷ segment (spot_of view (slice_index_or (slice_index_or loops b.hole []) b.to nobody)) (spot_of view (slice_index_or current b.from nobody)) ∷ [])
+    ∷ segment (spot_of view (slice_index_or (slice_index_or loops b.hole []) b.to nobody)) (spot_of view (slice_index_or current b.from nobody)) ∷ [])
 edges_joined view current loops b w = λ test.
     let loop = slice_index_or loops b.hole [] in
     let p = slice_index_or current b.from nobody in let q = slice_index_or loop b.to nobody in
@@ -157,12 +157,12 @@ edges_joined view current loops b w = λ test.
     let bridge = bridge_edges view current loop b in let others = flat_map (edges_round view) (remove loops b.hole) in
     let c = list_any test (edges_round view current) in let r = list_any test (edges_round view loop) in
     let round =
-        ap (λ (l : List Corner). list_any test (edges_round view l)) (joined_way current loop b.from b.to w.from w.to)
-        ∙ (round_detour view xs p q ms ys test
-        ∙ (list_any-append test (edges_round view (xs ++ p ∷ ys)) (edges_round view (q ∷ ms) ++ bridge)
-        ∙ (ap (λ (l : List Corner). list_any test (edges_round view l) || list_any test (edges_round view (q ∷ ms) ++ bridge)) (split_at current b.from nobody w.from)
-        ∙ (ap (λ (x : Bool). c || x) (list_any-append test (edges_round view (q ∷ ms)) bridge)
-        ∙ ap (λ (x : Bool). c || (x || list_any test bridge)) (round_loop view loop b.to w.to test))))) in
+    ap (λ (l : List Corner). list_any test (edges_round view l)) (joined_way current loop b.from b.to w.from w.to)
+    ∙ (round_detour view xs p q ms ys test
+    ∙ (list_any-append test (edges_round view (xs ++ p ∷ ys)) (edges_round view (q ∷ ms) ++ bridge)
+    ∙ (ap (λ (l : List Corner). list_any test (edges_round view l) || list_any test (edges_round view (q ∷ ms) ++ bridge)) (split_at current b.from nobody w.from)
+    ∙ (ap (λ (x : Bool). c || x) (list_any-append test (edges_round view (q ∷ ms)) bridge)
+    ∙ ap (λ (x : Bool). c || (x || list_any test bridge)) (round_loop view loop b.to w.to test))))) in
     let all = without_loop view loops b.hole w.hole test ∙ list_any-append test (edges_round view loop) others in
     list_any-append test (edges_round view (joined_by current loops b)) others
     ∙ (ap (λ (x : Bool). x || list_any test others) round
@@ -196,5 +196,5 @@ bridge_alike view es fs current loops e =
     found_alike (λ k. first_found (bridge_from view es current (at k) k) 0 (length current)) (λ k. first_found (bridge_from view fs current (at k) k) 0 (length current)) 0 (length loops)
     (λ k. found_alike (bridge_from view es current (at k) k) (bridge_from view fs current (at k) k) 0 (length current)
     (λ i. ap (option_map (λ (j : ℕ). let b : Bridge = record { hole = k; from = i; to = j } in b))
-        (from_alike (λ j. is_free view es (turn_at current i) (slice_index_or (at k) j nobody)) (λ j. is_free view fs (turn_at current i) (slice_index_or (at k) j nobody)) 0 (length (at k))
-        (λ j. free_alike view es fs (turn_at current i) (slice_index_or (at k) j nobody) e))))
+    (from_alike (λ j. is_free view es (turn_at current i) (slice_index_or (at k) j nobody)) (λ j. is_free view fs (turn_at current i) (slice_index_or (at k) j nobody)) 0 (length (at k))
+    (λ j. free_alike view es fs (turn_at current i) (slice_index_or (at k) j nobody) e))))

@@ -97,7 +97,11 @@ fn blocker_of(view: View, bridge: Edge, barriers: &Barriers) -> Option<usize>
         }
         let start = RUN * b;
         let left = barriers.edges.len() - start;
-        let end = if left < RUN { barriers.edges.len() } else { start + RUN };
+        let end = if left < RUN {
+            barriers.edges.len()
+        } else {
+            start + RUN
+        };
         if let Some(i) = blocker_in(view, bridge, &barriers.edges, start, end) {
             return Some(i);
         }

@@ -51,7 +51,12 @@ fn backwards(alloc: Global, corners: &[Corner]) -> Result<Vec<Corner>, AllocErro
 }
 
 /// An inner loop as it is joined, with places from `first` on.
-fn hole_of(alloc: Global, view: View, first: usize, points: &[Point]) -> Result<Vec<Corner>, AllocError>
+fn hole_of(
+    alloc: Global,
+    view: View,
+    first: usize,
+    points: &[Point],
+) -> Result<Vec<Corner>, AllocError>
     requires some { 0 < length points.now }
     requires few { first + length points.now ≤ MOST_LOOP_CORNERS }
     requires in_grid { All IsGridPoint points.now }

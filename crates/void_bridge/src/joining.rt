@@ -35,10 +35,22 @@ fn add_loop(barriers: &mut Barriers, view: View, corners: &[Corner]) -> Result<(
     let mut previous = first;
     for i in 1..corners.len() {
         let next = seen(view.axis, corners[i].point);
-        add_edge(barriers, Edge { a: previous, b: next })?;
+        add_edge(
+            barriers,
+            Edge {
+                a: previous,
+                b: next,
+            },
+        )?;
         previous = next;
     }
-    add_edge(barriers, Edge { a: previous, b: first })
+    add_edge(
+        barriers,
+        Edge {
+            a: previous,
+            b: first,
+        },
+    )
 }
 
 /// The edges of the outer loop and of the inner ones.
@@ -126,7 +138,11 @@ fn places_of(alloc: Global, corners: &[Corner]) -> Result<Vec<u32>, AllocError>
 }
 
 /// The places of the joined list; none where the outer loop has no view, or where there is no free bridge.
-fn list_of(alloc: Global, outer: &[Point], inner: &[Vec<Point>]) -> Result<Option<Vec<u32>>, AllocError>
+fn list_of(
+    alloc: Global,
+    outer: &[Point],
+    inner: &[Vec<Point>],
+) -> Result<Option<Vec<u32>>, AllocError>
     requires outer_is { IsLoop outer.now }
     requires inner_are { AreLoops (map (λ loop. loop.items) inner.now) }
     requires few { length outer.now + corner_count (map (λ loop. loop.items) inner.now) ≤ MOST_LOOP_CORNERS }
@@ -149,7 +165,11 @@ fn list_of(alloc: Global, outer: &[Point], inner: &[Vec<Point>]) -> Result<Optio
 ///
 /// `BridgeError::Stuck` comes exactly where a loop is left to which there is no free bridge, or where the outer loop
 /// has no area; `BridgeError::Memory` where memory was refused.
-pub fn join_loops(alloc: Global, outer: &[Point], inner: &[Vec<Point>]) -> Result<Vec<u32>, BridgeError>
+pub fn join_loops(
+    alloc: Global,
+    outer: &[Point],
+    inner: &[Vec<Point>],
+) -> Result<Vec<u32>, BridgeError>
     requires outer_is { IsLoop outer.now }
     requires inner_are { AreLoops (map (λ loop. loop.items) inner.now) }
     requires few { length outer.now + corner_count (map (λ loop. loop.items) inner.now) ≤ MOST_LOOP_CORNERS }
