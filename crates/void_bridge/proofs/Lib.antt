@@ -4,3 +4,5 @@ pub mod PlacedCorners
 pub mod JoinedAreas
 pub mod SameEdges
 pub mod Crossings
+pub mod FirstFound
+pub mod BridgeSteps
