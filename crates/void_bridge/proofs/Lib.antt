@@ -6,3 +6,9 @@ pub mod SameEdges
 pub mod Crossings
 pub mod FirstFound
 pub mod BridgeSteps
+pub mod FramedEdges
+pub mod EdgesAdded
+pub mod FreeBridges
+pub mod LoopsInGrid
+pub mod HolesRead
+pub mod BridgedEdges

@@ -32,7 +32,8 @@ bridge_between view t c = segment (spot_of view t.corner) (spot_of view c)
 -- a bridge is free: its ends differ, it leads into the angle at its corner, and it collides with none of the edges
 unfoldable pub is_free : View → List Segment → Turn → Corner → Bool
 is_free view edges t c = not (same_spot (spot_of view t.corner) (spot_of view c))
-    && (leads_inside view (spot_of view t.before) (spot_of view t.corner) (spot_of view t.after) (spot_of view c)
+    && (leads_inside view
+    (spot_of view t.before) (spot_of view t.corner) (spot_of view t.after) (spot_of view c)
     && not (list_any (collide view (bridge_between view t c)) edges))
 
 -- what is found, or else what is found otherwise
@@ -52,8 +53,9 @@ bridge_from view edges current loop k i = option_map (λ j. record { hole = k; f
 
 -- the first bridge: to the first loop to which there is a free one, from the first corner of the list
 abbrev pub bridge_by : View → List Segment → List Corner → List (List Corner) → Option Bridge
-bridge_by view edges current loops = first_found (λ k.
-    first_found (bridge_from view edges current (slice_index_or loops k []) k) 0 (length current)) 0 (length loops)
+bridge_by view edges current loops = first_found
+    (λ k. first_found (bridge_from view edges current (slice_index_or loops k []) k) 0 (length current))
+    0 (length loops)
 
 -- .. that is free of all edges of the current list and of the loops that are left
 unfoldable pub first_bridge : View → List Corner → List (List Corner) → Option Bridge

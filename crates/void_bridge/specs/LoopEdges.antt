@@ -44,7 +44,8 @@ is_end s p = same_spot p s.a || same_spot p s.b
 
 -- p lies on the segment
 abbrev pub is_on : View → Segment → Spot → Bool
-is_on view s p = int_eq (area view s.a s.b p) (pos 0) && (is_between s.a.u s.b.u p.u && is_between s.a.v s.b.v p.v)
+is_on view s p = int_eq (area view s.a s.b p) (pos 0)
+    && (is_between s.a.u s.b.u p.u && is_between s.a.v s.b.v p.v)
 
 -- p lies on the segment and is no end of it
 abbrev pub is_inside : View → Segment → Spot → Bool

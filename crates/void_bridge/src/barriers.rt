@@ -99,7 +99,8 @@ pub fn no_barriers(alloc: Global) -> Barriers
 /// One more edge.
 pub fn add_edge(barriers: &mut Barriers, edge: Edge) -> Result<(), AllocError>
     requires { AreBarriers barriers.old }
-    ensures edges { OnOk result (segments_of barriers.new ≡ segments_of barriers.old ++ as_segment edge ∷ []) }
+    ensures edges { OnOk result
+        (segments_of barriers.new ≡ segments_of barriers.old ++ as_segment edge ∷ []) }
     ensures framed { OnOk result (AreBarriers barriers.new) }
 {
     let count = barriers.edges.len();

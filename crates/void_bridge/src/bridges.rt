@@ -73,7 +73,8 @@ fn first_end(
     requires hole_in { AreInGrid hole.now }
     requires kept { AreBarriers barriers.now }
     ensures first { result ≡ first_from
-        (λ j. is_free view (segments_of barriers.now) t (slice_index_or hole.now j nobody)) 0 (length hole.now) }
+        (λ j. is_free view (segments_of barriers.now) t (slice_index_or hole.now j nobody))
+        0 (length hole.now) }
     ensures within { IfSome result (λ j. j < length hole.now) }
 {
     for j in 0..hole.len() {
@@ -121,15 +122,15 @@ pub fn first_bridge(
     hints: &mut Hints,
 ) -> Option<Bridge>
     requires current_in { AreInGrid current.now }
-    requires holes_in { All (λ hole. AreInGrid hole.items) holes.now }
+    requires holes_in { All AreInGrid (map (λ hole. hole.items) holes.now) }
     requires kept { AreBarriers barriers.now }
-    ensures first { result ≡ bridge_by view (segments_of barriers.now) current.now (map (λ hole. hole.items) holes.now) }
+    ensures first { result
+        ≡ bridge_by view (segments_of barriers.now) current.now (map (λ hole. hole.items) holes.now) }
     ensures within { IfSome result (IsBridgeIn current.now (map (λ hole. hole.items) holes.now)) }
 {
     for k in 0..holes.len() {
-        let found = bridge_to(view, current, &holes[k], k, barriers, hints);
-        if found.is_some() {
-            return found;
+        if let Some(bridge) = bridge_to(view, current, &holes[k], k, barriers, hints) {
+            return Some(bridge);
         }
     }
     None

@@ -37,17 +37,12 @@ fn turns_as_outer(view: View, points: &[Point]) -> bool
     if view.reversed { area < 0 } else { 0 < area }
 }
 
-/// The loop gone round the other way from the same first corner.
-fn backwards(alloc: Global, corners: &[Corner]) -> Result<Vec<Corner>, AllocError>
-    requires { 0 < length corners.now }
-    ensures { IfOk result (λ made. made.items ≡ backwards corners.now) }
+/// Turns the loop round: it is gone round the other way from the same first corner.
+fn turn_round(corners: &mut [Corner])
+    requires { 0 < length corners.old }
+    ensures { corners.new ≡ backwards corners.old }
 {
-    let mut made = Vec::with_capacity(alloc, corners.len())?;
-    made.push(corners[0])?;
-    for corner in corners[1..].iter().rev() {
-        made.push(*corner)?;
-    }
-    Ok(made)
+    corners[1..].reverse();
 }
 
 /// An inner loop as it is joined, with places from `first` on.
@@ -62,12 +57,11 @@ fn hole_of(
     requires in_grid { All IsGridPoint points.now }
     ensures { IfOk result (λ made. made.items ≡ oriented view (corners_from first points.now)) }
 {
-    let corners = corners_after(alloc, first, points)?;
+    let mut corners = corners_after(alloc, first, points)?;
     if turns_as_outer(view, points) {
-        backwards(alloc, &corners)
-    } else {
-        Ok(corners)
+        turn_round(&mut corners);
     }
+    Ok(corners)
 }
 
 /// The inner loops as they are joined, with places from `first` on.

@@ -28,7 +28,8 @@ fn add_loop(barriers: &mut Barriers, view: View, corners: &[Corner]) -> Result<(
     requires some { 0 < length corners.now }
     requires in_grid { AreInGrid corners.now }
     requires framed { AreBarriers barriers.old }
-    ensures edges { OnOk result (segments_of barriers.new ≡ segments_of barriers.old ++ edges_round view corners.now) }
+    ensures edges { OnOk result (segments_of barriers.new
+        ≡ segments_of barriers.old ++ edges_round view corners.now) }
     ensures framed { OnOk result (AreBarriers barriers.new) }
 {
     let first = seen(view.axis, corners[0].point);
@@ -62,8 +63,8 @@ fn barriers_of(
 ) -> Result<Barriers, AllocError>
     requires outer_some { 0 < length outer.now }
     requires outer_in { AreInGrid outer.now }
-    requires holes_some { All (λ hole. 0 < length hole.items) holes.now }
-    requires holes_in { All (λ hole. AreInGrid hole.items) holes.now }
+    requires holes_some { All (λ hole. 0 < length hole) (map (λ hole. hole.items) holes.now) }
+    requires holes_in { All AreInGrid (map (λ hole. hole.items) holes.now) }
     ensures edges { IfOk result (λ barriers. segments_of barriers
         ≡ all_edges view outer.now (map (λ hole. hole.items) holes.now)) }
     ensures framed { IfOk result AreBarriers }
@@ -173,7 +174,8 @@ pub fn join_loops(
     requires outer_is { IsLoop outer.now }
     requires inner_are { AreLoops (map (λ loop. loop.items) inner.now) }
     requires few { length outer.now + corner_count (map (λ loop. loop.items) inner.now) ≤ MOST_LOOP_CORNERS }
-    ensures list { IfOk result (λ list. joined_of outer.now (map (λ loop. loop.items) inner.now) ≡ Some list.items) }
+    ensures list { IfOk result (λ list.
+        joined_of outer.now (map (λ loop. loop.items) inner.now) ≡ Some list.items) }
     ensures stuck { IfErr result (λ fault. fault ≡ BridgeError.Stuck
         → joined_of outer.now (map (λ loop. loop.items) inner.now) ≡ None) }
     ensures areas { IfOk result (λ list.
