@@ -14,25 +14,25 @@ use Rattle.void_bridge.specs.LoopEdges.{Segment, segment, spot_of, collide}
 use Rattle.void_bridge.specs.Bridges.{leads_inside, is_free, first_found, bridge_from}
 
 -- the three things that make a bridge free
-abbrev pub frees : Bool → Bool → Bool → Bool
+abbrev frees : Bool → Bool → Bool → Bool
 frees same inside blocked = not same && (inside && not blocked)
 
-pub frees_same : (s i b : Bool) → s ≡ true → false ≡ frees s i b
+frees_same : (s i b : Bool) → s ≡ true → false ≡ frees s i b
 frees_same true i b e = refl
 frees_same false i b e = absurd (cc e)
 
-pub frees_outside : (s i b : Bool) → i ≡ false → false ≡ frees s i b
+frees_outside : (s i b : Bool) → i ≡ false → false ≡ frees s i b
 frees_outside true i b e = refl
 frees_outside false true b e = absurd (cc e)
 frees_outside false false b e = refl
 
-pub frees_inside : (s i b r : Bool) → s ≡ false → i ≡ true → r ≡ not b → r ≡ frees s i b
+frees_inside : (s i b r : Bool) → s ≡ false → i ≡ true → r ≡ not b → r ≡ frees s i b
 frees_inside true i b r e f g = absurd (cc e)
 frees_inside false true b r e f g = g
 frees_inside false false b r e f g = absurd (cc f)
 
 -- by the spots of the corners
-pub free_at : (view : View) (edges : List Segment) (t : Turn) (c : Corner) (p a b d : Spot) → a ≡ spot_of view t.before → b ≡ spot_of view t.corner → d ≡ spot_of view t.after → p ≡ spot_of view c
+free_at : (view : View) (edges : List Segment) (t : Turn) (c : Corner) (p a b d : Spot) → a ≡ spot_of view t.before → b ≡ spot_of view t.corner → d ≡ spot_of view t.after → p ≡ spot_of view c
     → frees (same_spot b p) (leads_inside view a b d p) (list_any (collide view (segment b p)) edges) ≡ is_free view edges t c
 unfolding is_free
 free_at view edges t c p a b d e f g h =
@@ -40,6 +40,20 @@ free_at view edges t c p a b d e f g h =
     ∙ (ap (λ (s : Spot). frees (same_spot s p) (leads_inside view (spot_of view t.before) s d p) (list_any (collide view (segment s p)) edges)) f
     ∙ (ap (λ (s : Spot). frees (same_spot (spot_of view t.corner) p) (leads_inside view (spot_of view t.before) (spot_of view t.corner) s p) (list_any (collide view (segment (spot_of view t.corner) p)) edges)) g
     ∙ ap (λ (s : Spot). frees (same_spot (spot_of view t.corner) s) (leads_inside view (spot_of view t.before) (spot_of view t.corner) (spot_of view t.after) s) (list_any (collide view (segment (spot_of view t.corner) s)) edges)) h))
+
+pub ends_are_one : (view : View) (edges : List Segment) (t : Turn) (c : Corner) (p b : Spot) → b ≡ spot_of view t.corner → p ≡ spot_of view c → same_spot b p ≡ true → false ≡ is_free view edges t c
+ends_are_one view edges t c p b f h e =
+    let a = spot_of view t.before in let d = spot_of view t.after in
+    frees_same (same_spot b p) (leads_inside view a b d p) (list_any (collide view (segment b p)) edges) e ∙ free_at view edges t c p a b d refl f refl h
+
+pub leads_outside : (view : View) (edges : List Segment) (t : Turn) (c : Corner) (p a b d : Spot) → a ≡ spot_of view t.before → b ≡ spot_of view t.corner → d ≡ spot_of view t.after → p ≡ spot_of view c → leads_inside view a b d p ≡ false → false ≡ is_free view edges t c
+leads_outside view edges t c p a b d e f g h i =
+    frees_outside (same_spot b p) (leads_inside view a b d p) (list_any (collide view (segment b p)) edges) i ∙ free_at view edges t c p a b d e f g h
+
+pub free_unless_blocked : (view : View) (edges : List Segment) (t : Turn) (c : Corner) (p a b d : Spot) (blocked : Bool) → a ≡ spot_of view t.before → b ≡ spot_of view t.corner → d ≡ spot_of view t.after → p ≡ spot_of view c
+    → same_spot b p ≡ false → leads_inside view a b d p ≡ true → blocked ≡ list_any (collide view (segment b p)) edges → not blocked ≡ is_free view edges t c
+free_unless_blocked view edges t c p a b d blocked e f g h s i k =
+    frees_inside (same_spot b p) (leads_inside view a b d p) (list_any (collide view (segment b p)) edges) (not blocked) s i (ap not k) ∙ free_at view edges t c p a b d e f g h
 
 -- the bridge to the k-th loop from the i-th corner, by what is found for the corner's turn
 abbrev pub bridge : ℕ → ℕ → ℕ → Bridge

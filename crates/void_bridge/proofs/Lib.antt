@@ -12,3 +12,4 @@ pub mod FreeBridges
 pub mod LoopsInGrid
 pub mod HolesRead
 pub mod BridgedEdges
+pub mod Passed

@@ -1,8 +1,8 @@
 //! The search for an edge that a bridge collides with.
-ghost use Rattle.std.specs.Prelude.{◌≡◌, ◌≤◌, ◌<◌, ℕ, OnSome, MatchOption, true, is_some, length, map};
+ghost use Rattle.std.specs.Prelude.{◌≡◌, ◌≤◌, ◌<◌, ◌+◌, ℕ, OnSome, MatchOption, true, is_some, length, map};
 ghost use Rattle.std.specs.List.{list_any};
 ghost use Rattle.void_bridge.specs.LoopEdges.{collide};
-ghost use Rattle.void_bridge.specs.inner.Barriers.{as_segment, segments_of, AreBarriers, IsPassed};
+ghost use Rattle.void_bridge.specs.inner.Barriers.{as_segment, segments_of, run, AreBarriers, IsPassed};
 
 use crate::barriers::{Barriers, Edge, RUN, are_apart, frame_of};
 use crate::collisions::collide;
@@ -87,6 +87,17 @@ fn blocker_in(view: View, bridge: Edge, edges: &[Edge], start: usize, end: usize
     None
 }
 
+/// Where a run ends of n edges that begins with one of them.
+#[inline(always)]
+fn run_end(n: usize, start: usize) -> usize
+    requires { start ≤ n }
+    ensures within { result ≤ n }
+    ensures behind { start ≤ result }
+    ensures all { (k : ℕ) → k < n → k < start + run → k < result }
+{
+    if n - start < RUN { n } else { start + RUN }
+}
+
 /// An edge with which the bridge collides. Only those runs are asked whose frames the bridge's own meets.
 fn blocker_of(view: View, bridge: Edge, barriers: &Barriers) -> Option<usize>
     requires { AreBarriers barriers.now }
@@ -98,12 +109,7 @@ fn blocker_of(view: View, bridge: Edge, barriers: &Barriers) -> Option<usize>
             continue;
         }
         let start = RUN * b;
-        let left = barriers.edges.len() - start;
-        let end = if left < RUN {
-            barriers.edges.len()
-        } else {
-            start + RUN
-        };
+        let end = run_end(barriers.edges.len(), start);
         if let Some(i) = blocker_in(view, bridge, &barriers.edges, start, end) {
             return Some(i);
         }

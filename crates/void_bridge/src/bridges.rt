@@ -3,7 +3,7 @@ ghost use Rattle.std.specs.Prelude.{◌≡◌, ◌<◌, length, map, IfSome, sli
 ghost use Rattle.bim_model.specs.Points.{IsGridPoint};
 ghost use Rattle.ear_cut.specs.Corners.{nobody, turn_at, InGrid, AreInGrid};
 ghost use Rattle.ear_cut.specs.Registers.{as_spot};
-ghost use Rattle.ear_cut.specs.Removal.{first_from};
+ghost use Rattle.ear_cut.specs.inner.EarNotes.{IsFirst};
 ghost use Rattle.void_bridge.specs.Bridges.{is_left, leads_inside, is_free, first_found, bridge_from, bridge_by, IsBridge, IsBridgeIn};
 ghost use Rattle.void_bridge.specs.inner.Barriers.{segments_of, AreBarriers};
 
@@ -72,10 +72,8 @@ fn first_end(
     requires t_in { InGrid t }
     requires hole_in { AreInGrid hole.now }
     requires kept { AreBarriers barriers.now }
-    ensures first { result ≡ first_from
-        (λ j. is_free view (segments_of barriers.now) t (slice_index_or hole.now j nobody))
-        0 (length hole.now) }
-    ensures within { IfSome result (λ j. j < length hole.now) }
+    ensures { IsFirst (λ j. is_free view (segments_of barriers.now) t (slice_index_or hole.now j nobody))
+        (length hole.now) result }
 {
     for j in 0..hole.len() {
         if is_free(view, t, hole[j], barriers, hints) {

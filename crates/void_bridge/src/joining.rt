@@ -117,7 +117,7 @@ fn joined_in(
     let mut holes = holes_of(alloc, view, outer.len(), inner)?;
     let mut barriers = barriers_of(alloc, view, &current, &holes)?;
     let mut hints = no_hints(alloc, barriers.edges.len())?;
-    for _n in 0..inner.len() {
+    for step in 0..inner.len() {
         let Some(bridge) = first_bridge(view, &current, &holes, &barriers, &mut hints) else {
             return Ok(None);
         };
