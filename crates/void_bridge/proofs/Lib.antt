@@ -13,3 +13,4 @@ pub mod LoopsInGrid
 pub mod HolesRead
 pub mod BridgedEdges
 pub mod Passed
+pub mod Joining

@@ -41,7 +41,7 @@ or_detour false false false true = refl
 or_detour false false false false = refl
 
 -- ---- lists in which the same tests find one
-same_lists : (xs ys : List Segment) → xs ≡ ys → AreSame xs ys
+pub same_lists : (xs ys : List Segment) → xs ≡ ys → AreSame xs ys
 same_lists xs ys e = λ test. ap (list_any test) e
 
 same_on : (xs ys zs : List Segment) → AreSame xs ys → AreSame ys zs → AreSame xs zs
