@@ -84,3 +84,10 @@ next_more n next loops i points h p e =
 pub next_within : (n next : ℕ) (loops : List (List Point)) (i most : ℕ) (points : List Point) → i < length loops → points ≡ slice_index_or loops i [] → next ≡ n + corner_count (take i loops) → n + corner_count loops ≤ most → next + length points ≤ most
 next_within n next loops i most points h p e f =
     let a = count_within loops i h in let b = ap length p in omega (arith, a, b, e, f)
+
+-- ---- a part that is turned round
+pub turned_round : (cs part : List Corner) → part ≡ reverse (take (length cs - 1) (drop 1 cs)) → take 1 cs ++ (part ++ drop (length cs - 1) (drop 1 cs)) ≡ take 1 cs ++ reverse (drop 1 cs)
+turned_round cs part e =
+    let n : length (drop 1 cs) ≤ length cs - 1 = omega (arith, length-drop 1 cs) in
+    ap (λ (l : List Corner). take 1 cs ++ l)
+    (ap (λ (l : List Corner). part ++ l) (drop_all (length cs - 1) (drop 1 cs) n) ∙ (append-nil part ∙ (e ∙ ap (λ (l : List Corner). reverse l) (take_rest cs 1))))

@@ -1,8 +1,9 @@
 //! The edges that no bridge may cross, in runs with a frame round each.
-ghost use Rattle.std.specs.Prelude.{◌≡◌, ◌++◌, ◌∷◌, [], OnOk};
+ghost use Rattle.std.specs.Prelude.{◌≡◌, ◌≤◌, ◌*◌, ◌++◌, ◌∷◌, [], List, length, OnOk};
 ghost use Rattle.ear_cut.specs.PolygonViews.{Spot};
 ghost use Rattle.ear_cut.specs.Registers.{as_spot};
-ghost use Rattle.void_bridge.specs.inner.Barriers.{as_segment, segments_of, IsInFrame, IsFramed, are_apart, AreBarriers};
+ghost use Rattle.void_bridge.specs.LoopEdges.{Segment};
+ghost use Rattle.void_bridge.specs.inner.Barriers.{as_segment, segments_of, run, IsInFrame, IsFramed, are_apart, AreFramed, AreBarriers};
 
 use ear_cut::Flat;
 use std::alloc::{AllocError, Global};
@@ -96,6 +97,21 @@ pub fn no_barriers(alloc: Global) -> Barriers
     }
 }
 
+/// Frames one more edge behind so many others: widens the frame of the last run, or begins a run with the edge.
+fn frame_one_more(frames: &mut Vec<Frame>, count: usize, edge: Edge) -> Result<(), AllocError>
+    requires { count ≤ run * length frames.old.items }
+    ensures { OnOk result ((edges : List Segment) → length edges ≡ count
+        → AreFramed frames.old.items edges → AreFramed frames.new.items (edges ++ as_segment edge ∷ [])) }
+{
+    if count % RUN == 0 {
+        frames.push(frame_of(edge))?;
+        return Ok(());
+    }
+    let frame = widened_to(frames[count / RUN], edge);
+    frames[count / RUN] = frame;
+    Ok(())
+}
+
 /// One more edge.
 pub fn add_edge(barriers: &mut Barriers, edge: Edge) -> Result<(), AllocError>
     requires { AreBarriers barriers.old }
@@ -104,12 +120,7 @@ pub fn add_edge(barriers: &mut Barriers, edge: Edge) -> Result<(), AllocError>
     ensures framed { OnOk result (AreBarriers barriers.new) }
 {
     let count = barriers.edges.len();
-    if count % RUN == 0 {
-        barriers.frames.push(frame_of(edge))?;
-    } else {
-        let frame = widened_to(barriers.frames[count / RUN], edge);
-        barriers.frames[count / RUN] = frame;
-    }
+    frame_one_more(&mut barriers.frames, count, edge)?;
     barriers.edges.push(edge)?;
     Ok(())
 }
