@@ -1,8 +1,9 @@
 //! The loops of a face joined to one list of corners.
-ghost use Rattle.std.specs.Prelude.{◌≡◌, ◌≤◌, ◌<◌, ◌+◌, ◌++◌, length, map, All, IfOk, IfErr, MatchOption, None, Some, OnOk};
+ghost use Rattle.std.specs.Prelude.{◌≡◌, ◌≤◌, ◌<◌, ◌+◌, ◌++◌, ◌∷◌, [], length, map, All, IfOk, IfErr, MatchOption, None, Some, OnOk};
+ghost use Rattle.bim_model.specs.Points.{IsGridPoint};
 ghost use Rattle.ear_cut.specs.Corners.{AreInGrid};
 ghost use Rattle.void_bridge.specs.HoleLoops.{corner_count, IsLoop, AreLoops};
-ghost use Rattle.void_bridge.specs.LoopEdges.{edges_round, all_edges};
+ghost use Rattle.void_bridge.specs.LoopEdges.{segment, spot_of, edges_round, all_edges};
 ghost use Rattle.void_bridge.specs.Bridges.{joined_at, joined_in, joined_of, IsAreaSum};
 ghost use Rattle.void_bridge.specs.inner.Barriers.{segments_of, AreBarriers};
 
@@ -77,6 +78,27 @@ fn barriers_of(
     Ok(barriers)
 }
 
+/// Adds a bridge, there and back.
+fn add_bridge(
+    barriers: &mut Barriers,
+    view: View,
+    from: Corner,
+    to: Corner,
+) -> Result<(), AllocError>
+    requires from_in { IsGridPoint from.point }
+    requires to_in { IsGridPoint to.point }
+    requires framed { AreBarriers barriers.old }
+    ensures edges { OnOk result (segments_of barriers.new
+        ≡ (segments_of barriers.old ++ segment (spot_of view from) (spot_of view to) ∷ [])
+        ++ segment (spot_of view to) (spot_of view from) ∷ []) }
+    ensures framed { OnOk result (AreBarriers barriers.new) }
+{
+    let a = seen(view.axis, from.point);
+    let b = seen(view.axis, to.point);
+    add_edge(barriers, Edge { a, b })?;
+    add_edge(barriers, Edge { a: b, b: a })
+}
+
 /// The list with a loop put in behind its i-th corner, from the loop's j-th corner round to it again.
 fn joined_at(
     alloc: Global,
@@ -122,10 +144,7 @@ fn joined_in(
             return Ok(None);
         };
         let hole = holes.remove(bridge.hole);
-        let from = seen(view.axis, current[bridge.from].point);
-        let to = seen(view.axis, hole[bridge.to].point);
-        add_edge(&mut barriers, Edge { a: from, b: to })?;
-        add_edge(&mut barriers, Edge { a: to, b: from })?;
+        add_bridge(&mut barriers, view, current[bridge.from], hole[bridge.to])?;
         current = joined_at(alloc, &current, bridge.from, &hole, bridge.to)?;
     }
     Ok(Some(current))
