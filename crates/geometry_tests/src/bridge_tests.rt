@@ -91,8 +91,10 @@ const MOST: usize = 100;
 
 /// The inner loops; none where one has fewer than three corners, or where there are more than a hundred in all.
 fn loops(alloc: Global, given: &[&[[i32; 3]]]) -> Result<Option<Vec<Vec<Point>>>, AllocError>
-    ensures loops { IfOk result (λ found. IfSome found (λ made. AreLoops (map (λ l. l.items) made.items))) }
-    ensures few { IfOk result (λ found. IfSome found (λ made. corner_count (map (λ l. l.items) made.items) ≤ MOST)) }
+    ensures loops { IfOk result (λ found. IfSome found (λ made.
+        AreLoops (map (λ l. l.items) made.items))) }
+    ensures few { IfOk result (λ found. IfSome found (λ made.
+        corner_count (map (λ l. l.items) made.items) ≤ MOST)) }
 {
     let mut made = Vec::new(alloc);
     let mut left = MOST;

@@ -14,3 +14,4 @@ pub mod HolesRead
 pub mod BridgedEdges
 pub mod Passed
 pub mod Joining
+pub mod Rows
