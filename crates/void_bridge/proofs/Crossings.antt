@@ -4,6 +4,7 @@ use Rattle.std.specs.Prelude.{int_lt, int_le}
 use Rattle.std.specs.Ordering.{int_eq}
 use Rattle.std.proofs.lemmas.Int.{ints}
 use Rattle.std.proofs.lemmas.Bool.{or_cases, and_parts}
+use Rattle.std.proofs.lemmas.Bool.Decides.{Decides-int_eq}
 use Rattle.exact_arith.proofs.Ring.{ring, at, lit, ◌⊕◌, ◌⊖◌, ◌⊗◌}
 use Rattle.exact_arith.proofs.Order.{mul_nonneg, from_rest, nonneg_by}
 use Rattle.ear_cut.specs.declared.polygon_view.View.{View}
@@ -263,7 +264,7 @@ same_framed p q f e h =
     }
   where
     equal : (x y : ℤ) → int_eq x y ≡ true → x ≡ y
-    equal x y e = omega (arith, ints, e)
+    equal x y e = (Decides-int_eq x y).0 e
 
     low : (x y l : ℤ) → x ≡ y → l ≤ℤ y → l ≤ℤ x
     low x y l e h = omega (arith, ints, e, h)

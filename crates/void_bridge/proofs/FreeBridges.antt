@@ -1,5 +1,5 @@
 -- Whether a bridge is free, by the spots of its corners, and the first one that is.
-use Rattle.std.proofs.Common.{◌≡◌, ◌∙◌, ap, sym, refl, ℕ, ◌<◌, Bool, true, false, not, ◌&&◌, List, length, [], Option}
+use Rattle.std.proofs.Common.{◌≡◌, ◌∙◌, ap, sym, refl, ℕ, ◌<◌, Bool, true, false, not, ◌&&◌, ◌||◌, cond, List, length, [], Option}
 use Rattle.std.specs.Prelude.{slice_index_or}
 use Rattle.std.specs.List.{list_any}
 use Rattle.std.specs.Option.{option_map}
@@ -69,3 +69,27 @@ pub bridges_at : (view : View) (edges : List Segment) (current loop : List Corne
     → found ≡ first_found (bridge_from view edges current loop k) 0 (length current) → first_found (bridge_from view edges current (slice_index_or loops k []) k) 0 (length current) ≡ found
 bridges_at view edges current loop loops k found e f =
     sym (f ∙ ap (λ (l : List Corner). first_found (bridge_from view edges current l k) 0 (length current)) e)
+
+-- ---- a way into the angle at a corner, by whether the corner turns left and by what the way is left of
+abbrev inside : Bool → Bool → Bool → Bool
+inside turns x y = cond turns (x && y) (x || y)
+
+pub turns_both : (t x y r : Bool) → t ≡ true → x ≡ true → r ≡ y → r ≡ inside t x y
+turns_both true true y r e f g = g
+turns_both true false y r e f g = absurd (cc f)
+turns_both false x y r e f g = absurd (cc e)
+
+pub turns_outside : (t x y : Bool) → t ≡ true → x ≡ false → false ≡ inside t x y
+turns_outside true true y e f = absurd (cc f)
+turns_outside true false y e f = refl
+turns_outside false x y e f = absurd (cc e)
+
+pub bends_inside : (t x y : Bool) → t ≡ false → x ≡ true → true ≡ inside t x y
+bends_inside true x y e f = absurd (cc e)
+bends_inside false true y e f = refl
+bends_inside false false y e f = absurd (cc f)
+
+pub bends_other : (t x y r : Bool) → t ≡ false → x ≡ false → r ≡ y → r ≡ inside t x y
+bends_other true x y r e f g = absurd (cc e)
+bends_other false true y r e f g = absurd (cc f)
+bends_other false false y r e f g = g

@@ -1,5 +1,5 @@
 -- The inner loops as they are read: their places, the way round, one loop after another.
-use Rattle.std.proofs.Common.{◌≡◌, ◌∙◌, ap, sym, refl, ℕ, zero, suc, ◌+◌, ◌-◌, ◌<◌, ◌≤◌, ℤ, pos, ◌-ℤ◌, Bool, true, false, ⊥, List, [], ◌∷◌, ◌++◌, append_assoc, length, map, take, drop, get_or, Vec, Global, arith}
+use Rattle.std.proofs.Common.{◌≡◌, ◌∙◌, ap, sym, refl, ℕ, zero, suc, ◌+◌, ◌-◌, ◌<◌, ◌≤◌, ℤ, pos, ◌-ℤ◌, Bool, true, false, List, [], ◌∷◌, ◌++◌, append_assoc, length, map, take, drop, get_or, Vec, Global, arith}
 use Rattle.std.specs.Prelude.{slice_index_or, reverse, int_lt}
 use Rattle.std.proofs.lemmas.Int.{ints}
 use Rattle.std.proofs.lemmas.List.{append-nil, take_more, take_all, take_rest, drop_all, length-take-le, length-drop, map_push, get_or-map}

@@ -53,7 +53,7 @@ map_twice : {X Y Z : Type 0} (f : Y → Z) (g : X → Y) (xs : List X) → map f
 map_twice f g [] = refl
 map_twice {X} {Y} {Z} f g (x ∷ xs) = ap (λ (l : List Z). f (g x) ∷ l) (map_twice f g xs)
 
-points_of_outer : (n : ℕ) (points : List Point) → points_of (corners_from n points) ≡ points
+pub points_of_outer : (n : ℕ) (points : List Point) → points_of (corners_from n points) ≡ points
 points_of_outer n [] = refl
 points_of_outer n (p ∷ ps) = ap (λ (l : List Point). p ∷ l) (points_of_outer (n + 1) ps)
 

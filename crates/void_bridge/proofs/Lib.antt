@@ -13,5 +13,8 @@ pub mod LoopsInGrid
 pub mod HolesRead
 pub mod BridgedEdges
 pub mod Passed
-pub mod Joining
+pub mod BridgeLoop
 pub mod Rows
+pub mod Alternatives
+pub mod Orientations
+pub mod FaceViews

@@ -1,6 +1,6 @@
 //! Whether two segments of a view meet in a point that is not an end of both.
 ghost use Rattle.std.specs.Prelude.{◌≡◌};
-ghost use Rattle.ear_cut.specs.PolygonViews.{same_spot};
+ghost use Rattle.ear_cut.specs.PolygonViews.{area, same_spot};
 ghost use Rattle.ear_cut.specs.Registers.{as_spot};
 ghost use Rattle.void_bridge.specs.inner.Barriers.{as_segment};
 ghost use Rattle.void_bridge.specs.LoopEdges.{is_between, is_end, is_on, is_inside, are_opposite, cross, collide};
@@ -16,12 +16,20 @@ pub fn is_same_spot(a: Flat, b: Flat) -> bool
     a.u == b.u && a.v == b.v
 }
 
-/// Whether x lies between a and b or is one of them.
+/// Whether p's first coordinate lies between those of the edge's ends or is one of them.
 #[inline(always)]
-fn is_between(a: i64, b: i64, x: i64) -> bool
-    ensures { result ≡ is_between a b x }
+fn spans_u(edge: Edge, p: Flat) -> bool
+    ensures { result ≡ is_between edge.a.u edge.b.u p.u }
 {
-    a <= x && x <= b || (b <= x && x <= a)
+    edge.a.u <= p.u && p.u <= edge.b.u || (edge.b.u <= p.u && p.u <= edge.a.u)
+}
+
+/// Whether p's second coordinate lies between those of the edge's ends or is one of them.
+#[inline(always)]
+fn spans_v(edge: Edge, p: Flat) -> bool
+    ensures { result ≡ is_between edge.a.v edge.b.v p.v }
+{
+    edge.a.v <= p.v && p.v <= edge.b.v || (edge.b.v <= p.v && p.v <= edge.a.v)
 }
 
 /// Whether p is an end of the edge.
@@ -37,8 +45,7 @@ fn is_end(edge: Edge, p: Flat) -> bool
 fn is_on(view: View, edge: Edge, p: Flat) -> bool
     ensures { result ≡ is_on view (as_segment edge) (as_spot p) }
 {
-    area(view, edge.a, edge.b, p) == 0
-        && (is_between(edge.a.u, edge.b.u, p.u) && is_between(edge.a.v, edge.b.v, p.v))
+    area(view, edge.a, edge.b, p) == 0 && (spans_u(edge, p) && spans_v(edge, p))
 }
 
 /// Whether p lies on the edge and is no end of it.
@@ -57,13 +64,24 @@ fn are_opposite(x: i64, y: i64) -> bool
     x < 0 && 0 < y || (y < 0 && 0 < x)
 }
 
+/// Whether p and q lie on both sides of the edge.
+#[inline(always)]
+fn divides(view: View, edge: Edge, p: Flat, q: Flat) -> bool
+    ensures { result ≡ are_opposite (area view (as_spot edge.a) (as_spot edge.b) (as_spot p))
+        (area view (as_spot edge.a) (as_spot edge.b) (as_spot q)) }
+{
+    are_opposite(
+        area(view, edge.a, edge.b, p),
+        area(view, edge.a, edge.b, q),
+    )
+}
+
 /// Whether the ends of each edge lie on both sides of the other.
 #[inline(always)]
 fn cross(view: View, s: Edge, t: Edge) -> bool
     ensures { result ≡ cross view (as_segment s) (as_segment t) }
 {
-    are_opposite(area(view, s.a, s.b, t.a), area(view, s.a, s.b, t.b))
-        && are_opposite(area(view, t.a, t.b, s.a), area(view, t.a, t.b, s.b))
+    divides(view, s, t.a, t.b) && divides(view, t, s.a, s.b)
 }
 
 /// Whether two edges meet in a point that is not an end of both.

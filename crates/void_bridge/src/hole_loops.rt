@@ -58,9 +58,10 @@ fn hole_of(
     ensures { IfOk result (λ made. made.items ≡ oriented view (corners_from first points.now)) }
 {
     let mut corners = corners_after(alloc, first, points)?;
-    if turns_as_outer(view, points) {
-        turn_round(&mut corners);
+    if !turns_as_outer(view, points) {
+        return Ok(corners);
     }
+    turn_round(&mut corners);
     Ok(corners)
 }
 

@@ -1,4 +1,4 @@
-use Rattle.std.proofs.Common.{sym, subst, List, map}
+use Rattle.std.proofs.Common.{sym, subst, [], List, map}
 use Rattle.void_bridge.specs.declared.barriers.Edge.{Edge}
 use Rattle.void_bridge.specs.declared.barriers.Frame.{Frame}
 use Rattle.void_bridge.specs.inner.Barriers.{as_segment, AreFramed}

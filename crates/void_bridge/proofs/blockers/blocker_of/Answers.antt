@@ -1,8 +1,9 @@
-use Rattle.std.proofs.Common.{◌≡◌, ◌∙◌, ap, sym, ◌<◌, ◌≤◌, ◌*◌, length, true, arith}
+use Rattle.std.proofs.Common.{◌≡◌, ◌∙◌, ap, sym, subst, ◌<◌, ◌≤◌, ◌*◌, ℕ, List, length, map, true, arith}
 use Rattle.std.specs.Prelude.{slice_index_or}
-use Rattle.std.proofs.lemmas.List.{get_or_default, length-map}
+use Rattle.std.proofs.lemmas.List.{get_or_default}
+use Rattle.void_bridge.specs.declared.barriers.Edge.{Edge}
 use Rattle.void_bridge.specs.declared.barriers.Frame.{Frame}
-use Rattle.void_bridge.specs.inner.Barriers.{as_segment, segments_of, run, point_frame, are_apart}
+use Rattle.void_bridge.specs.inner.Barriers.{as_segment, segments_of, run, point_frame, are_apart, IsPassed}
 use Rattle.void_bridge.proofs.Passed.{none_blocks, run_passed, run_asked}
 use Rattle.void_bridge.proofs.blockers.blocker_of.Goals as goal
 
@@ -16,4 +17,12 @@ loop-b-preserved-then-are_apart c =
 
 pub loop-b-preserved : goal.loop-b-preserved
 loop-b-preserved c =
-    run_asked c.args.view (as_segment c.args.bridge) (segments_of c.args.barriers.now) c.loop-b.b c.run_end-end.result c.in_default.ensures c.run_end-end.ensures.all c.loop-b.invariant
+    let view = c.args.view in let bridge = as_segment c.args.bridge in let end = c.run_end-end.result in
+    run_asked view bridge (segments_of c.args.barriers.now) c.loop-b.b end
+    (subst (λ (es : List Edge). (k : ℕ) → run * c.loop-b.b ≤ k → k < end → IsPassed view bridge (map as_segment es) k) c.deref.ensures.value c.in_default.ensures)
+    (λ k h l. c.run_end-end.ensures.all k ? l) c.loop-b.invariant
+
+pub returns : goal.returns
+returns c =
+    sym (none_blocks c.args.view (as_segment c.args.bridge) (segments_of c.args.barriers.now)
+    (λ k h. c.loop-b.invariant k (omega (arith, h, c.requires.enough, c.loop-b-test.false)) h))

@@ -1,13 +1,17 @@
-use Rattle.std.proofs.Common.{◌≡◌, ◌<◌, ℕ, length, Option, Some, None, below_more, arith}
+use Rattle.std.proofs.Common.{◌≡◌, sym, subst, ◌<◌, ℕ, length, Option, Some, None, below_more, arith}
 use Rattle.std.specs.Prelude.{slice_index_or}
 use Rattle.std.specs.Option.{option_map}
-use Rattle.ear_cut.specs.Corners.{nobody}
+use Rattle.ear_cut.specs.Corners.{nobody, InGrid}
+use Rattle.ear_cut.proofs.Closed.{turn_in_grid}
 use Rattle.ear_cut.proofs.Search.{first_is}
 use Rattle.void_bridge.specs.Bridges.{is_free, bridge_from}
 use Rattle.void_bridge.specs.inner.Barriers.{segments_of}
 use Rattle.void_bridge.proofs.FirstFound.{none_found, some_found}
 use Rattle.void_bridge.proofs.FreeBridges.{bridge, bridge_at}
 use Rattle.void_bridge.proofs.bridges.bridge_to.Goals as goal
+
+pub first_end-requires-clause-t_in : goal.first_end-requires-clause-t_in
+first_end-requires-clause-t_in c = subst InGrid (sym c.turn_at.ensures) (turn_in_grid c.args.current.now c.loop-i.i c.requires.current_in c.loop-i-test.true)
 
 pub returns-in-Some-clause-first : goal.returns-in-Some-clause-first
 returns-in-Some-clause-first c =

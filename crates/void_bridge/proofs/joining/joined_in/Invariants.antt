@@ -2,7 +2,7 @@ use Rattle.std.proofs.Common.{◌-◌, length}
 use Rattle.void_bridge.specs.Bridges.{joined_in}
 use Rattle.void_bridge.specs.inner.Barriers.{segments_of, AreBarriers}
 use Rattle.void_bridge.proofs.HolesRead.{items_of}
-use Rattle.void_bridge.proofs.Joining.{IsJoining}
+use Rattle.void_bridge.proofs.BridgeLoop.{IsJoining}
 use Rattle.void_bridge.proofs.joining.joined_in.Given as goal
 
 abbrev pub invariant-loop-step : goal.invariant-loop-step
