@@ -1,17 +1,20 @@
 -- What the loop over the bridges keeps: the current list, the loops that are left and the edges that no bridge may meet.
-use Rattle.std.proofs.Common.{◌≡◌, ◌∙◌, ap, sym, subst, ℕ, zero, suc, ◌<◌, List, [], ◌∷◌, ◌++◌, length, map, All, Option, Some, None}
+use Rattle.std.proofs.Common.{◌≡◌, ◌∙◌, ap, sym, subst, ℕ, zero, suc, ◌<◌, List, [], ◌∷◌, ◌++◌, length, map, get_or, All, Option, Some, None, Vec, Global, arith}
 use Rattle.std.specs.Prelude.{slice_index_or, remove}
+use Rattle.std.proofs.lemmas.List.{get_or_default, length-map}
 use Rattle.bim_model.specs.declared.geometry.Point.{Point}
 use Rattle.bim_model.specs.Points.{IsGridPoint}
 use Rattle.ear_cut.specs.declared.polygon_view.View.{View}
 use Rattle.ear_cut.specs.declared.corners.Corner.{Corner}
 use Rattle.ear_cut.specs.PolygonViews.{Spot}
 use Rattle.ear_cut.specs.Corners.{nobody, corners_from, AreInGrid}
+use Rattle.ear_cut.proofs.Closed.{corner_in_grid}
 use Rattle.void_bridge.specs.declared.bridges.Bridge.{Bridge}
 use Rattle.void_bridge.specs.HoleLoops.{loops_from, oriented, AreLoops}
 use Rattle.void_bridge.specs.LoopEdges.{Segment, segment, spot_of, all_edges}
 use Rattle.void_bridge.specs.Bridges.{bridge_by, IsBridgeIn, joined_at, joined_by, join_by, joined_in}
 use Rattle.void_bridge.specs.inner.Barriers.{AreSame}
+use Rattle.void_bridge.proofs.HolesRead.{items_of, item_at}
 use Rattle.void_bridge.proofs.SameEdges.{same_lists}
 use Rattle.void_bridge.proofs.BridgeSteps.{step_on, step_stuck, all_joined}
 use Rattle.void_bridge.proofs.BridgedEdges.{first_by, bridged_same}
@@ -66,3 +69,33 @@ joining_bridged view whole n m current loops edges b hole made left new p q j e 
     subst (λ (ls : List (List Corner)). IsJoining view whole m made ls new) (sym o)
     (subst (λ (cs : List Corner). IsJoining view whole m cs (remove loops b.hole) new) (sym (l ∙ y))
     (bridged view whole n m current loops edges b new p q j e w f g (h ∙ x) k))
+
+-- ---- what the code reads: the list, the loops and the corners by its own values
+pub read_bridge : (cs ds : List Corner) (hs ks : List (Vec Corner Global)) (b : Bridge) → cs ≡ ds → hs ≡ ks → IsBridgeIn cs (items_of hs) b → IsBridgeIn ds (items_of ks) b
+read_bridge cs ds hs ks b e f w =
+    subst (λ (l : List Corner). IsBridgeIn l (items_of ks) b) e (subst (λ (l : List (Vec Corner Global)). IsBridgeIn cs (items_of l) b) f w)
+
+pub read_first : (view : View) (edges : List Segment) (cs ds : List Corner) (hs ks : List (Vec Corner Global)) (found : Option Bridge) → cs ≡ ds → hs ≡ ks → found ≡ bridge_by view edges cs (items_of hs) → found ≡ bridge_by view edges ds (items_of ks)
+read_first view edges cs ds hs ks found e f g =
+    g ∙ (ap (λ (l : List Corner). bridge_by view edges l (items_of hs)) e ∙ ap (λ (l : List (Vec Corner Global)). bridge_by view edges ds (items_of l)) f)
+
+pub taken_hole : (holes : List (Vec Corner Global)) (current : List Corner) (b : Bridge) (hole : Vec Corner Global) → IsBridgeIn current (items_of holes) b → hole ≡ get_or holes b.hole hole → hole.items ≡ slice_index_or (items_of holes) b.hole []
+taken_hole holes current b hole w e =
+    let n = length-map holes (λ (v : Vec Corner Global). v.items) in
+    item_at holes b.hole hole (omega (arith, w.hole, n)) e
+
+pub from_in_grid : (current : List Corner) (loops : List (List Corner)) (b : Bridge) (p : Corner) → IsBridgeIn current loops b → AreInGrid current → p ≡ slice_index_or current b.from p → IsGridPoint p.point
+from_in_grid current loops b p w h e = subst (λ (q : Corner). IsGridPoint q.point) (sym e) (corner_in_grid current b.from p h w.from)
+
+to_within : (current : List Corner) (loops : List (List Corner)) (b : Bridge) (hole : List Corner) → IsBridgeIn current loops b → hole ≡ slice_index_or loops b.hole [] → b.to < length hole
+to_within current loops b hole w e = subst (λ (l : List Corner). b.to < length l) (sym e) w.to
+
+pub to_in_grid : (current : List Corner) (loops : List (List Corner)) (b : Bridge) (hole : List Corner) (q : Corner) → IsBridgeIn current loops b → All AreInGrid loops → hole ≡ slice_index_or loops b.hole [] → q ≡ slice_index_or hole b.to q → IsGridPoint q.point
+to_in_grid current loops b hole q w h e f =
+    subst (λ (p : Corner). IsGridPoint p.point) (sym f) (corner_in_grid hole b.to q (subst AreInGrid (sym e) (h b.hole [] w.hole)) (to_within current loops b hole w e))
+
+pub from_spot : (view : View) (current : List Corner) (loops : List (List Corner)) (b : Bridge) (p : Corner) → IsBridgeIn current loops b → p ≡ slice_index_or current b.from p → spot_of view p ≡ spot_of view (slice_index_or current b.from nobody)
+from_spot view current loops b p w e = ap (spot_of view) (e ∙ get_or_default current b.from p nobody w.from)
+
+pub to_spot : (view : View) (current : List Corner) (loops : List (List Corner)) (b : Bridge) (hole : List Corner) (q : Corner) → IsBridgeIn current loops b → hole ≡ slice_index_or loops b.hole [] → q ≡ slice_index_or hole b.to q → spot_of view q ≡ spot_of view (slice_index_or hole b.to nobody)
+to_spot view current loops b hole q w e f = ap (spot_of view) (f ∙ get_or_default hole b.to q nobody (to_within current loops b hole w e))

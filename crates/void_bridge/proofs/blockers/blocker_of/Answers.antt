@@ -1,6 +1,6 @@
 use Rattle.std.proofs.Common.{◌≡◌, ◌∙◌, ap, sym, subst, ◌<◌, ◌≤◌, ◌*◌, ℕ, List, length, map, true, arith}
 use Rattle.std.specs.Prelude.{slice_index_or}
-use Rattle.std.proofs.lemmas.List.{get_or_default}
+use Rattle.std.proofs.lemmas.List.{get_or_default, length-map}
 use Rattle.void_bridge.specs.declared.barriers.Edge.{Edge}
 use Rattle.void_bridge.specs.declared.barriers.Frame.{Frame}
 use Rattle.void_bridge.specs.inner.Barriers.{as_segment, segments_of, run, point_frame, are_apart, IsPassed}
@@ -20,7 +20,7 @@ loop-b-preserved c =
     let view = c.args.view in let bridge = as_segment c.args.bridge in let end = c.run_end-end.result in
     run_asked view bridge (segments_of c.args.barriers.now) c.loop-b.b end
     (subst (λ (es : List Edge). (k : ℕ) → run * c.loop-b.b ≤ k → k < end → IsPassed view bridge (map as_segment es) k) c.deref.ensures.value c.in_default.ensures)
-    (λ k h l. c.run_end-end.ensures.all k ? l) c.loop-b.invariant
+    (λ k h l. c.run_end-end.ensures.all k (omega (arith, h, length-map c.args.barriers.now.edges.items as_segment, c.len.ensures)) l) c.loop-b.invariant
 
 pub returns : goal.returns
 returns c =

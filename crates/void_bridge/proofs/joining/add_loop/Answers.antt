@@ -1,7 +1,9 @@
-use Rattle.std.proofs.Common.{◌≡◌, ◌∙◌, ap, sym, ◌+◌, ◌-◌, ℕ, length, arith}
+use Rattle.std.proofs.Common.{◌≡◌, ◌∙◌, ap, sym, ◌+◌, ◌-◌, ◌++◌, ◌∷◌, [], ℕ, length, arith}
+use Rattle.std.proofs.lemmas.Result.{on_ok_weaker}
 use Rattle.ear_cut.specs.Registers.{as_spot}
 use Rattle.ear_cut.specs.Corners.{nobody}
 use Rattle.ear_cut.proofs.Closed.{corner_in_grid}
+use Rattle.void_bridge.specs.LoopEdges.{segment}
 use Rattle.void_bridge.specs.inner.Barriers.{segments_of}
 use Rattle.void_bridge.proofs.EdgesAdded.{spot_at, edge_more, edge_last}
 use Rattle.void_bridge.proofs.joining.add_loop.Goals as goal
@@ -25,4 +27,11 @@ loop-i-preserved c = record {
 }
 
 pub returns-clause-edges : goal.returns-clause-edges
-returns-clause-edges c = ?
+returns-clause-edges c =
+    let view = c.args.view in let corners = c.args.corners.now in
+    let old = segments_of c.loop-i.barriers in let new = segments_of c.add_edge-2.new.barriers in
+    let p = as_spot c.loop-i.previous in let q = as_spot c.seen-first.result in
+    on_ok_weaker c.add_edge-2.result
+    (λ (h : new ≡ old ++ segment p q ∷ []). edge_last view corners c.loop-i.i (segments_of c.args.barriers.now) old new p q c.requires.some
+    (omega (arith, c.loop-i-test.false, c.loop-i.auto.i-end, c.requires.some)) c.loop-i.invariant.previous_is c.seen-first.ensures c.loop-i.invariant.edges h)
+    c.add_edge-2.ensures.edges

@@ -24,4 +24,12 @@ pub add_loop-requires-in-loop-hole-clause-in_grid : goal.add_loop-requires-in-lo
 add_loop-requires-in-loop-hole-clause-in_grid c = subst AreInGrid (sym (hole_is c)) (c.requires.holes_in c.loop-hole.hole-index [] (in_holes c))
 
 pub loop-hole-preserved : goal.loop-hole-preserved
-loop-hole-preserved c = ?
+loop-hole-preserved c =
+    let view = c.args.view in let holes = c.args.holes.now in let i = c.loop-hole.hole-index in
+    let n = length-map holes (λ (v : Vec Corner Global). v.items) in
+    let w : i < length (items_of holes) = omega (arith, c.loop-hole-test.true, n) in
+    let e = c.deref.ensures.value ∙ item_at holes i c.hole-item.result c.loop-hole-test.true c.hole-item.is in
+    record {
+      edges = loop_more view (items_of holes) i (edges_round view c.args.outer.now) (segments_of c.loop-hole.barriers) (segments_of c.add_loop-in-loop-hole.new.barriers) c.deref.result.now w e c.loop-hole.invariant.edges c.in_ok-add_loop-2.ensures.edges;
+      framed = c.in_ok-add_loop-2.ensures.framed;
+    }

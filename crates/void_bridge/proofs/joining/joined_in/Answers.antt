@@ -13,7 +13,7 @@ use Rattle.void_bridge.specs.inner.Barriers.{segments_of, AreBarriers}
 use Rattle.void_bridge.proofs.LoopsInGrid.{IsSome, outer_in_grid, outer_some, holes_in_grid, holes_some}
 use Rattle.void_bridge.proofs.BridgedEdges.{items_without, to_come, no_more}
 use Rattle.void_bridge.proofs.HolesRead.{items_of, item_at}
-use Rattle.void_bridge.proofs.BridgeLoop.{IsJoining, joining_begun, joining_stuck, joining_ended, joining_bridged}
+use Rattle.void_bridge.proofs.BridgeLoop.{IsJoining, joining_begun, joining_stuck, joining_ended, joining_bridged, read_bridge, read_first, taken_hole, from_in_grid, to_in_grid, from_spot, to_spot}
 use Rattle.void_bridge.proofs.joining.joined_in.Goals as goal
 
 -- ---- before the first bridge
@@ -55,26 +55,39 @@ returns-in_default c =
     ∙ (ap (λ (cs : List Corner). bridge_by view edges cs (items_of c.deref-in-loop-step-2.result.now)) c.deref-in-loop-step.ensures.value
     ∙ ap (λ (hs : List (Vec Corner Global)). bridge_by view edges c.loop-step.current.items (items_of hs)) c.deref-in-loop-step-2.ensures.value))
 
--- the bridge leads from the current list to a loop that is left
-is_bridge : (c : goal.In-Some) → IsBridgeIn c.loop-step.current.items (items_of c.loop-step.holes.items) c.in-Some.bridge
-is_bridge c =
-    subst (λ (cs : List Corner). IsBridgeIn cs (items_of c.loop-step.holes.items) c.in-Some.bridge) c.deref-in-loop-step.ensures.value
-    (subst (λ (hs : List (Vec Corner Global)). IsBridgeIn c.deref-in-loop-step.result.now (items_of hs) c.in-Some.bridge) c.deref-in-loop-step-2.ensures.value c.in-Some.ensures.within)
-
-hole_is : (c : goal.After-remove-hole) → c.remove-hole.result.items ≡ slice_index_or (items_of c.loop-step.holes.items) c.in-Some.bridge.hole []
-hole_is c =
-    let n = length-map c.loop-step.holes.items (λ (v : Vec Corner Global). v.items) in
-    let w : c.in-Some.bridge.hole < length c.loop-step.holes.items = omega (arith, n, (is_bridge (goal.at.remove-hole c).In-Some).hole) in
-    item_at c.loop-step.holes.items c.in-Some.bridge.hole c.remove-hole.result w c.remove-hole.ensures.value
-
 pub add_bridge-requires-clause-from_in : goal.add_bridge-requires-clause-from_in
-add_bridge-requires-clause-from_in c = ?
+add_bridge-requires-clause-from_in c =
+    let current = c.loop-step.current.items in let holes = c.loop-step.holes.items in let b = c.in-Some.bridge in
+    let w = read_bridge c.deref-in-loop-step.result.now current c.deref-in-loop-step-2.result.now holes b c.deref-in-loop-step.ensures.value c.deref-in-loop-step-2.ensures.value c.in-Some.ensures.within in
+    from_in_grid current (items_of holes) b c.index.result.now w c.loop-step.invariant.joining.current_in c.index.ensures
 
 pub add_bridge-requires-clause-to_in : goal.add_bridge-requires-clause-to_in
-add_bridge-requires-clause-to_in c = ?
+add_bridge-requires-clause-to_in c =
+    let current = c.loop-step.current.items in let holes = c.loop-step.holes.items in let b = c.in-Some.bridge in
+    let w = read_bridge c.deref-in-loop-step.result.now current c.deref-in-loop-step-2.result.now holes b c.deref-in-loop-step.ensures.value c.deref-in-loop-step-2.ensures.value c.in-Some.ensures.within in
+    to_in_grid current (items_of holes) b c.remove-hole.result.items c.index-in-loop-step.result.now w c.loop-step.invariant.joining.loops_in
+    (taken_hole holes current b c.remove-hole.result w c.remove-hole.ensures.value) c.index-in-loop-step.ensures
 
 pub loop-step-preserved : goal.loop-step-preserved
-loop-step-preserved c = ?
+loop-step-preserved c =
+    let view = c.args.view in let inner = items_of c.args.inner.now in let n = length c.args.inner.now in let k = c.loop-step.step in
+    let current = c.loop-step.current.items in let holes = c.loop-step.holes.items in let b = c.in-Some.bridge in
+    let edges = segments_of c.loop-step.barriers in let hole = c.remove-hole.result.items in
+    let w = read_bridge c.deref-in-loop-step.result.now current c.deref-in-loop-step-2.result.now holes b c.deref-in-loop-step.ensures.value c.deref-in-loop-step-2.ensures.value c.in-Some.ensures.within in
+    let e = taken_hole holes current b c.remove-hole.result w c.remove-hole.ensures.value in
+    record {
+      framed = c.in_ok-add_bridge.ensures.framed;
+      joining = joining_bridged view (joined_in view c.args.outer.now inner) (n - k) (n - (k + 1)) current (items_of holes) edges b hole c.in_ok-current-2.current.items (items_of c.remove-hole.new.self.items) (segments_of c.add_bridge.new.barriers)
+          (spot_of view c.index.result.now) (spot_of view c.index-in-loop-step.result.now) c.loop-step.invariant.joining (to_come n k c.loop-step-test.true) w
+          (read_first view edges c.deref-in-loop-step.result.now current c.deref-in-loop-step-2.result.now holes (Some b) c.deref-in-loop-step.ensures.value c.deref-in-loop-step-2.ensures.value c.in-Some.ensures.first)
+          e
+          (c.in_ok-current-2.ensures
+          ∙ (ap (λ (cs : List Corner). joined_at cs b.from c.deref-in-loop-step-4.result.now b.to) c.deref-in-loop-step-3.ensures.value ∙ ap (λ (cs : List Corner). joined_at current b.from cs b.to) c.deref-in-loop-step-4.ensures.value))
+          (ap (λ (hs : List (Vec Corner Global)). items_of hs) c.remove-hole.ensures.items ∙ items_without holes b.hole)
+          (from_spot view current (items_of holes) b c.index.result.now w c.index.ensures)
+          (to_spot view current (items_of holes) b hole c.index-in-loop-step.result.now w e c.index-in-loop-step.ensures)
+          c.in_ok-add_bridge.ensures.edges;
+    }
 
 pub returns : goal.returns
 returns c =
