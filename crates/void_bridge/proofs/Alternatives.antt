@@ -1,5 +1,5 @@
 -- Tests of several parts, of which the first that holds decides.
-use Rattle.std.proofs.Common.{◌≡◌, ◌∙◌, refl, Bool, true, false, ◌&&◌, ◌||◌}
+use Rattle.std.proofs.Common.{◌≡◌, refl, Bool, true, false, ◌&&◌, ◌||◌}
 
 pub decides : (x r : Bool) → x ≡ true → true ≡ (x || r)
 decides true r h = refl

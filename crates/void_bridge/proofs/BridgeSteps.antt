@@ -1,5 +1,5 @@
 -- The joined list from one bridge on.
-use Rattle.std.proofs.Common.{◌≡◌, ◌∙◌, ap, sym, refl, ℕ, zero, suc, List, Option, Some, None}
+use Rattle.std.proofs.Common.{◌≡◌, ◌∙◌, ap, sym, ℕ, suc, List, Option, Some, None}
 use Rattle.std.specs.Prelude.{remove}
 use Rattle.std.specs.Option.{option_and_then}
 use Rattle.ear_cut.specs.declared.polygon_view.View.{View}

@@ -1,8 +1,8 @@
 -- The inner loops as they are read: their places, the way round, one loop after another.
-use Rattle.std.proofs.Common.{◌≡◌, ◌∙◌, ap, sym, refl, ℕ, zero, suc, ◌+◌, ◌-◌, ◌<◌, ◌≤◌, ℤ, pos, ◌-ℤ◌, Bool, true, false, List, [], ◌∷◌, ◌++◌, append_assoc, length, map, take, drop, get_or, Vec, Global, arith}
+use Rattle.std.proofs.Common.{◌≡◌, ◌∙◌, ap, sym, refl, ℕ, zero, suc, ◌+◌, ◌-◌, ◌<◌, ◌≤◌, ℤ, pos, ◌-ℤ◌, Bool, true, false, List, [], ◌∷◌, ◌++◌, length, map, take, drop, get_or, Vec, Global, arith}
 use Rattle.std.specs.Prelude.{slice_index_or, reverse, int_lt}
 use Rattle.std.proofs.lemmas.Int.{ints}
-use Rattle.std.proofs.lemmas.List.{append-nil, take_more, take_all, take_rest, drop_all, length-take-le, length-drop, map_push, get_or-map}
+use Rattle.std.proofs.lemmas.List.{append-nil, take_more, take_rest, drop_all, length-take-le, length-drop, map_push, get_or-map}
 use Rattle.bim_model.specs.declared.geometry.Point.{Point}
 use Rattle.ear_cut.specs.declared.polygon_view.View.{View}
 use Rattle.ear_cut.specs.declared.corners.Corner.{Corner}

@@ -1,5 +1,5 @@
 -- The area of the joined list is that of the outer loop and of the inner ones together.
-use Rattle.std.proofs.Common.{◌≡◌, ◌∙◌, ap, sym, refl, subst, ℕ, zero, suc, ◌+◌, ◌<◌, ℤ, pos, ◌+ℤ◌, List, [], ◌∷◌, ◌++◌, length, map, Option, Some, None, arith}
+use Rattle.std.proofs.Common.{◌≡◌, ◌∙◌, ap, sym, refl, subst, ℕ, zero, suc, ◌+◌, ◌<◌, ℤ, ◌+ℤ◌, List, [], ◌∷◌, ◌++◌, length, map, Option, Some, None, arith}
 use Rattle.std.specs.Prelude.{slice_index_or, remove}
 use Rattle.std.specs.List.{flat_map}
 use Rattle.std.specs.Option.{option_map, option_and_then}
@@ -7,7 +7,7 @@ use Rattle.std.proofs.lemmas.List.{length-map}
 use Rattle.std.proofs.lemmas.Int.{ints}
 use Rattle.bim_model.specs.declared.geometry.Point.{Point}
 use Rattle.bim_model.specs.Polygons.{normal_of}
-use Rattle.exact_arith.specs.Space.{Vector, nowhere, plus}
+use Rattle.exact_arith.specs.Space.{Vector, plus}
 use Rattle.ear_cut.specs.declared.polygon_view.View.{View}
 use Rattle.ear_cut.specs.declared.corners.Corner.{Corner}
 use Rattle.ear_cut.specs.PolygonViews.{view_of}
@@ -19,7 +19,7 @@ use Rattle.void_bridge.specs.HoleLoops.{points_of, loops_from, oriented, normals
 use Rattle.void_bridge.specs.Bridges.{join_by, joined_in, joined_of, points_at, IsAreaSum}
 use Rattle.void_bridge.proofs.Detours.{plus_nothing, normal_of_joined}
 use Rattle.void_bridge.proofs.Kept.{joined_keeps}
-use Rattle.void_bridge.proofs.PlacedCorners.{ArePlaced, LoopsArePlaced, length-loops, placed_outer, placed_inner, joined_is_placed}
+use Rattle.void_bridge.proofs.PlacedCorners.{length-loops, placed_outer, placed_inner, joined_is_placed}
 
 -- ---- the sum of the loops that are left, without one of them
 swapped : (a b c : ℤ) → a +ℤ (b +ℤ c) ≡ b +ℤ (a +ℤ c)

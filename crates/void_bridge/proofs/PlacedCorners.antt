@@ -1,6 +1,6 @@
 -- Each corner of the joined list stands at the point of its place.
 use Rattle.std.proofs.Common.{◌≡◌, ◌∙◌, ap, sym, refl, subst, ℕ, zero, suc, ◌+◌, ◌<◌, Bool, true, false, cond, Some, List, [], ◌∷◌, ◌++◌, append_assoc, length, map, take, drop, get_or, arith}
-use Rattle.std.specs.Prelude.{slice_index_or, remove, reverse, pos, int_lt}
+use Rattle.std.specs.Prelude.{slice_index_or, reverse, pos, int_lt}
 use Rattle.std.specs.List.{flat_map}
 use Rattle.std.proofs.lemmas.List.{map-append, take-map, drop-map, get_or-map, get_or_at, length_push, length-append, length-map, reverse-append}
 use Rattle.std.proofs.lemmas.List.Edits.{length-remove}
@@ -10,9 +10,8 @@ use Rattle.ear_cut.specs.declared.corners.Corner.{Corner}
 use Rattle.ear_cut.specs.Corners.{nobody, corners_from}
 use Rattle.ear_cut.specs.Areas.{point_at}
 use Rattle.ear_cut.proofs.Taken.{lift, lift_within, taken}
-use Rattle.void_bridge.specs.declared.bridges.Bridge.{Bridge}
 use Rattle.void_bridge.specs.HoleLoops.{points_of, loops_from, area_of, backwards, oriented}
-use Rattle.void_bridge.specs.Bridges.{IsBridgeIn, joined_at, joined_by, join_by}
+use Rattle.void_bridge.specs.Bridges.{joined_at, join_by}
 use Rattle.void_bridge.proofs.Kept.{joined_keeps}
 
 -- the point at a corner's place

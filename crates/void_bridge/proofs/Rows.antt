@@ -1,5 +1,5 @@
 -- Faces whose joined lists were worked out by hand, and one of another program, as the definitions give them.
-use Rattle.std.proofs.Common.{◌≡◌, ℤ, pos, refl, List, [], ◌∷◌, Option, Some, None}
+use Rattle.std.proofs.Common.{◌≡◌, ℤ, pos, refl, List, [], ◌∷◌, Some, None}
 use Rattle.bim_model.specs.declared.geometry.Point.{Point}
 use Rattle.ear_cut.specs.PolygonViews.{area}
 use Rattle.ear_cut.specs.Corners.{turn_at}

@@ -76,7 +76,7 @@ fn blocker_in(view: View, bridge: Edge, edges: &[Edge], start: usize, end: usize
     requires end_in { end ≤ length edges.now }
     ensures { MatchOption result
         ((k : ℕ) → start ≤ k → k < end
-            → IsPassed view (as_segment bridge) (map as_segment edges.now) k)
+        → IsPassed view (as_segment bridge) (map as_segment edges.now) k)
         (λ i. list_any (collide view (as_segment bridge)) (map as_segment edges.now) ≡ true) }
 {
     for i in start..end {

@@ -70,10 +70,7 @@ fn divides(view: View, edge: Edge, p: Flat, q: Flat) -> bool
     ensures { result ≡ are_opposite (area view (as_spot edge.a) (as_spot edge.b) (as_spot p))
         (area view (as_spot edge.a) (as_spot edge.b) (as_spot q)) }
 {
-    are_opposite(
-        area(view, edge.a, edge.b, p),
-        area(view, edge.a, edge.b, q),
-    )
+    are_opposite(area(view, edge.a, edge.b, p), area(view, edge.a, edge.b, q))
 }
 
 /// Whether the ends of each edge lie on both sides of the other.

@@ -1,8 +1,6 @@
-use Rattle.std.proofs.Common.{◌∙◌, ap, sym, subst, ◌∷◌, ◌++◌, [], List, length, map, arith}
+use Rattle.std.proofs.Common.{◌∙◌, ap, map, arith}
 use Rattle.std.proofs.lemmas.List.{length-map, map_push}
-use Rattle.void_bridge.specs.declared.barriers.Edge.{Edge}
-use Rattle.void_bridge.specs.LoopEdges.{Segment}
-use Rattle.void_bridge.specs.inner.Barriers.{as_segment, segments_of, AreFramed}
+use Rattle.void_bridge.specs.inner.Barriers.{as_segment}
 use Rattle.void_bridge.proofs.barriers.add_edge.Goals as goal
 
 pub frame_one_more-requires : goal.frame_one_more-requires

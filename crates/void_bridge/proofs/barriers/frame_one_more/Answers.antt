@@ -1,7 +1,5 @@
-use Rattle.std.proofs.Common.{◌≡◌, ◌∙◌, ap, sym, subst, ◌*◌, ◌/◌, ◌<◌, ◌+◌, ◌++◌, ◌∷◌, [], List, length, arith}
-use Rattle.std.specs.Prelude.{slice_index_or}
+use Rattle.std.proofs.Common.{◌∙◌, sym, subst, ◌/◌, ◌<◌, ◌++◌, ◌∷◌, [], List, length, arith}
 use Rattle.std.proofs.lemmas.List.{get_or_default}
-use Rattle.ear_cut.specs.PolygonViews.{Spot}
 use Rattle.void_bridge.specs.declared.barriers.Frame.{Frame}
 use Rattle.void_bridge.specs.inner.Barriers.{as_segment, run, point_frame, IsInFrame, AreFramed}
 use Rattle.void_bridge.proofs.FramedEdges.{framed_begun, framed_more}

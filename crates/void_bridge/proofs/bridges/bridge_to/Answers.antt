@@ -1,6 +1,5 @@
-use Rattle.std.proofs.Common.{◌≡◌, sym, subst, ◌<◌, ℕ, length, Option, Some, None, below_more, arith}
+use Rattle.std.proofs.Common.{◌≡◌, sym, subst, length, Some, None, below_more, arith}
 use Rattle.std.specs.Prelude.{slice_index_or}
-use Rattle.std.specs.Option.{option_map}
 use Rattle.ear_cut.specs.Corners.{nobody, InGrid}
 use Rattle.ear_cut.proofs.Closed.{turn_in_grid}
 use Rattle.ear_cut.proofs.Search.{first_is}

@@ -1,19 +1,15 @@
-use Rattle.std.proofs.Common.{◌≡◌, ◌∙◌, ◌+◌, ◌-◌, ap, sym, subst, refl, ◌<◌, [], List, length, map, Some, None, Option, Vec, Global, All, arith}
-use Rattle.std.specs.Prelude.{slice_index_or}
-use Rattle.std.proofs.lemmas.List.{get_or_default, length-map}
+use Rattle.std.proofs.Common.{◌∙◌, ◌+◌, ◌-◌, ap, sym, subst, List, length, Some, Vec, Global, All, arith}
+use Rattle.std.proofs.lemmas.List.{length-map}
 use Rattle.bim_model.specs.declared.geometry.Point.{Point}
-use Rattle.bim_model.specs.Points.{IsGridPoint}
 use Rattle.ear_cut.specs.declared.corners.Corner.{Corner}
-use Rattle.ear_cut.specs.Corners.{nobody, AreInGrid}
-use Rattle.ear_cut.proofs.Closed.{corner_in_grid}
-use Rattle.void_bridge.specs.declared.bridges.Bridge.{Bridge}
+use Rattle.ear_cut.specs.Corners.{AreInGrid}
 use Rattle.void_bridge.specs.LoopEdges.{spot_of, all_edges}
-use Rattle.void_bridge.specs.Bridges.{bridge_by, joined_at, joined_in, IsBridgeIn}
-use Rattle.void_bridge.specs.inner.Barriers.{segments_of, AreBarriers}
+use Rattle.void_bridge.specs.Bridges.{bridge_by, joined_at, joined_in}
+use Rattle.void_bridge.specs.inner.Barriers.{segments_of}
 use Rattle.void_bridge.proofs.LoopsInGrid.{IsSome, outer_in_grid, outer_some, holes_in_grid, holes_some}
 use Rattle.void_bridge.proofs.BridgedEdges.{items_without, to_come, no_more}
-use Rattle.void_bridge.proofs.HolesRead.{items_of, item_at}
-use Rattle.void_bridge.proofs.BridgeLoop.{IsJoining, joining_begun, joining_stuck, joining_ended, joining_bridged, read_bridge, read_first, taken_hole, from_in_grid, to_in_grid, from_spot, to_spot}
+use Rattle.void_bridge.proofs.HolesRead.{items_of}
+use Rattle.void_bridge.proofs.BridgeLoop.{joining_begun, joining_stuck, joining_ended, joining_bridged, read_bridge, read_first, taken_hole, from_in_grid, to_in_grid, from_spot, to_spot}
 use Rattle.void_bridge.proofs.joining.joined_in.Goals as goal
 
 -- ---- before the first bridge

@@ -1,6 +1,5 @@
-use Rattle.std.proofs.Common.{◌≡◌, ◌∙◌, ap, sym, Some, None}
+use Rattle.std.proofs.Common.{◌∙◌, ap, sym, Some, None}
 use Rattle.ear_cut.specs.PolygonViews.{view_of}
-use Rattle.void_bridge.specs.Bridges.{joined_in}
 use Rattle.void_bridge.proofs.FaceViews.{places, no_view, in_view}
 use Rattle.void_bridge.proofs.HolesRead.{items_of}
 use Rattle.void_bridge.proofs.joining.list_of.Goals as goal
