@@ -183,7 +183,7 @@ by_test : (test : ℕ → Bool) (i n j : ℕ) (b : Bool) → (first_from test (i
 by_test test i n j true r e = let f : i ≡ j = cc e in omega (arith, f)
 by_test test i n j false r e = let l = r e in omega (arith, l)
 
-found_within : (test : ℕ → Bool) (i n j : ℕ) → first_from test i n ≡ Some j → j < i + n
+pub found_within : (test : ℕ → Bool) (i n j : ℕ) → first_from test i n ≡ Some j → j < i + n
 found_within test i zero j h = absurd (cc h)
 found_within test i (suc n) j h = by_test test i n j (test i) (found_within test (i + 1) n j) h
 

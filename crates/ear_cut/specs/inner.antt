@@ -1,4 +1,3 @@
 pub mod CornerFrames
 pub mod EarNotes
 pub mod Fans
-pub mod Registers

@@ -2,7 +2,7 @@
 // Frames round runs of corners, so that a triangle is asked only of the runs that may reach into it.
 ghost use Rattle.std.specs.Prelude.{◌≡◌, ◌≤◌, ◌<◌, ◌+◌, ◌*◌, ℕ, length, IfOk, int_lt};
 ghost use Rattle.ear_cut.specs.Corners.{AreInGrid};
-ghost use Rattle.ear_cut.specs.inner.Registers.{as_spot};
+ghost use Rattle.ear_cut.specs.Registers.{as_spot};
 ghost use Rattle.ear_cut.specs.PolygonViews.{Spot};
 ghost use Rattle.ear_cut.specs.inner.CornerFrames.{run, IsIn, is_apart, IsRound, AreRound, AreFrames, AreFramesIn, AreFramesBefore};
 

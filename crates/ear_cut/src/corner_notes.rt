@@ -4,7 +4,7 @@ ghost use Rattle.std.specs.Prelude.{◌≡◌, ◌≤◌, ◌<◌, ◌==◌, ℕ
 ghost use Rattle.ear_cut.specs.declared.corners.Angle.TheVariants.{Convex};
 ghost use Rattle.ear_cut.specs.Corners.{turn_at, angle_of, is_straight, nobody, InGrid, AreInGrid};
 ghost use Rattle.ear_cut.specs.Removal.{is_free, is_ear, choice};
-ghost use Rattle.ear_cut.specs.inner.Registers.{as_spot};
+ghost use Rattle.ear_cut.specs.Registers.{as_spot};
 ghost use Rattle.ear_cut.specs.PolygonViews.{seen};
 ghost use Rattle.ear_cut.specs.inner.CornerFrames.{AreFrames, AreFramesIn};
 ghost use Rattle.ear_cut.specs.inner.EarNotes.{blank, fresh, clear_without, shifted, settles, tells_ear, place_behind, IsClearTo, IsTrueOf, IsNoted, IsTaken, IsRemoval, IsFirst};

@@ -4,7 +4,7 @@ ghost use Rattle.std.specs.Prelude.{◌≡◌, ◌<◌, ◌+◌, ◌-◌, length
 ghost use Rattle.std.specs.Bool.{OnTrue};
 ghost use Rattle.ear_cut.specs.Corners.{AreInGrid};
 ghost use Rattle.ear_cut.specs.Removal.{cut_by};
-ghost use Rattle.ear_cut.specs.inner.Registers.{as_spot};
+ghost use Rattle.ear_cut.specs.Registers.{as_spot};
 ghost use Rattle.ear_cut.specs.inner.Fans.{spot_at, area_at, IsFanAt, IsFan};
 
 use crate::coordinates::Flat;

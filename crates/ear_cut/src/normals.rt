@@ -5,7 +5,7 @@ ghost use Rattle.exact_arith.specs.Space.{plus, cross_of};
 ghost use Rattle.bim_model.specs.Points.{grid_limit, vector_of, step, IsGridPoint};
 ghost use Rattle.bim_model.specs.Polygons.{normal_of};
 ghost use Rattle.ear_cut.specs.OutlineLimits.{most_corners, product_limit, normal_limit};
-ghost use Rattle.ear_cut.specs.inner.Registers.{as_vector, IsWithin, as_way, IsStep};
+ghost use Rattle.ear_cut.specs.Registers.{as_vector, IsWithin, as_way, IsStep};
 
 use crate::coordinates::Way;
 use bim_model::Point;

@@ -4,7 +4,7 @@ ghost use Rattle.std.specs.Prelude.{◌≡◌, ◌≤◌, pos, int_lt, unsigned_
 ghost use Rattle.bim_model.specs.Points.{IsGridPoint, cross_limit};
 ghost use Rattle.exact_arith.specs.Space.{is_nowhere};
 ghost use Rattle.ear_cut.specs.PolygonViews.{axis_of, component, view_of, seen, bend, area, same_spot, is_corner, holds};
-ghost use Rattle.ear_cut.specs.inner.Registers.{as_vector, as_spot};
+ghost use Rattle.ear_cut.specs.Registers.{as_vector, as_spot};
 
 use crate::coordinates::{Flat, Shape};
 use crate::normals::Normal;
@@ -41,7 +41,7 @@ fn axis_of(n: Normal) -> Axis
 }
 
 /// The component along an axis.
-fn component(axis: Axis, n: Normal) -> i64
+pub fn component(axis: Axis, n: Normal) -> i64
     ensures { result ≡ component axis (as_vector n) }
 {
     match axis {

@@ -1,11 +1,7 @@
 //! Polygons and their triangles, by hand and by another program.
-ghost use Rattle.std.specs.Prelude.{All, IfOk};
-ghost use Rattle.bim_model.specs.Points.{IsGridPoint};
-
-use crate::sample_points::point;
-use bim_model::{GRID_LIMIT, Point};
+use crate::sample_points::polygon;
+use bim_model::GRID_LIMIT;
 use ear_cut::{CutFault, Ear, MOST_CORNERS, cut};
-use std::alloc::{AllocError, Global};
 use std::test::Fail;
 
 /// A polygon and its triangles; none where the rule is stuck.
@@ -388,17 +384,6 @@ static CASES: [Case; 33] = [
         ears: &[[1, 2, 3], [0, 1, 3], [5, 0, 3], [3, 4, 5]],
     },
 ];
-
-/// The points of a polygon.
-fn polygon(alloc: Global, corners: &[[i32; 3]]) -> Result<Vec<Point>, AllocError>
-    ensures { IfOk result (λ made. All IsGridPoint made.items) }
-{
-    let mut made = Vec::new(alloc);
-    for corner in corners {
-        made.push(point(*corner))?;
-    }
-    Ok(made)
-}
 
 /// Worked out by hand and by another program.
 #[test]

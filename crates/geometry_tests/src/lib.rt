@@ -1,6 +1,8 @@
-//! Tests of the geometry: exact predicates, distances, polygons that are cut, and boxes within a gap.
+//! Tests of the geometry: exact predicates, distances, polygons that are cut, loops that are joined, and boxes within a gap.
 #![tactic(auto)]
 
+#[cfg(test)]
+mod bridge_tests;
 #[cfg(test)]
 mod clearance_tests;
 #[cfg(test)]

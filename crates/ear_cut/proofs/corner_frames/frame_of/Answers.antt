@@ -1,4 +1,4 @@
-use Rattle.ear_cut.specs.inner.Registers.{as_spot}
+use Rattle.ear_cut.specs.Registers.{as_spot}
 use Rattle.ear_cut.proofs.corner_frames.frame_of.Goals as goal
 
 pub returns-clause-a_in : goal.returns-clause-a_in

@@ -1,5 +1,5 @@
 use Rattle.std.proofs.Common.{◌*◌, arith}
-use Rattle.ear_cut.specs.inner.Registers.{as_spot}
+use Rattle.ear_cut.specs.Registers.{as_spot}
 use Rattle.ear_cut.specs.inner.CornerFrames.{run}
 use Rattle.ear_cut.proofs.Closed.{corner_in_grid}
 use Rattle.ear_cut.proofs.Round.{round_more}

@@ -3,7 +3,7 @@ use Rattle.std.proofs.lemmas.Int.{to_z-of_z}
 use Rattle.ear_cut.specs.declared.polygon_view.View.{View}
 use Rattle.ear_cut.specs.declared.corners.Angle.TheVariants.{Straight, Reflex}
 use Rattle.ear_cut.specs.PolygonViews.{Spot, area, seen}
-use Rattle.ear_cut.specs.inner.Registers.{as_spot}
+use Rattle.ear_cut.specs.Registers.{as_spot}
 use Rattle.ear_cut.specs.Corners.{angle_of, by_sign}
 use Rattle.ear_cut.proofs.corners.angle_of.Goals as goal
 

@@ -1,7 +1,7 @@
 use Rattle.std.proofs.Common.{◌∙◌, ap}
 use Rattle.exact_arith.specs.Space.{Vector, is_nowhere, cross_of}
 use Rattle.bim_model.specs.Points.{step}
-use Rattle.ear_cut.specs.inner.Registers.{as_way}
+use Rattle.ear_cut.specs.Registers.{as_way}
 use Rattle.ear_cut.proofs.corners.is_line.Goals as goal
 
 pub returns : goal.returns

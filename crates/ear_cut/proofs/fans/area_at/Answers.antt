@@ -1,7 +1,7 @@
 use Rattle.std.proofs.Common.{◌∙◌, ap, rules, w64, FitsSigned}
 use Rattle.std.proofs.lemmas.Int.{to_z-of_z}
 use Rattle.ear_cut.specs.PolygonViews.{Spot, area}
-use Rattle.ear_cut.specs.inner.Registers.{as_spot}
+use Rattle.ear_cut.specs.Registers.{as_spot}
 use Rattle.ear_cut.specs.inner.Fans.{spot_at}
 use Rattle.ear_cut.proofs.fans.area_at.Goals as goal
 

@@ -1,7 +1,7 @@
 use Rattle.std.proofs.Common.{ℕ, ◌+◌, ◌*◌, ◌≤◌, ℤ, refl, arith, rules}
 use Rattle.std.specs.Prelude.{unsigned_abs}
 use Rattle.ear_cut.specs.declared.normals.Normal.{Normal}
-use Rattle.ear_cut.specs.inner.Registers.{IsWithin}
+use Rattle.ear_cut.specs.Registers.{IsWithin}
 use Rattle.ear_cut.proofs.Newell.{sum_more, last_more, sum_all}
 use Rattle.ear_cut.proofs.normals.normal_of.Goals as goal
 

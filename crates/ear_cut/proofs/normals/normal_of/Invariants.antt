@@ -1,7 +1,7 @@
 use Rattle.std.proofs.Common.{◌≡◌, ◌*◌, ◌∷◌, take}
 use Rattle.bim_model.specs.Polygons.{along}
 use Rattle.bim_model.specs.Points.{IsGridPoint}
-use Rattle.ear_cut.specs.inner.Registers.{as_vector, IsWithin}
+use Rattle.ear_cut.specs.Registers.{as_vector, IsWithin}
 use Rattle.ear_cut.proofs.Newell.{last_of}
 use Rattle.ear_cut.proofs.normals.normal_of.Given as goal
 

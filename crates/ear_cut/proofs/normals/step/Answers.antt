@@ -2,7 +2,7 @@ use Rattle.std.proofs.Common.{ℤ, ◌-ℤ◌, ◌+◌, unsigned_abs, ◌≤◌,
 use Rattle.exact_arith.proofs.Ranges.{Kept, value_kept_64, difference_kept, kept_64, in_64, bounded}
 use Rattle.exact_arith.specs.Space.{Vector}
 use Rattle.bim_model.specs.Points.{vector_of}
-use Rattle.ear_cut.specs.inner.Registers.{as_way}
+use Rattle.ear_cut.specs.Registers.{as_way}
 use Rattle.ear_cut.proofs.Parts.{same_vector}
 use Rattle.ear_cut.proofs.normals.step.Goals as goal
 

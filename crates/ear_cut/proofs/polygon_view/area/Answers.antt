@@ -1,7 +1,7 @@
 use Rattle.std.proofs.Common.{◌∙◌, ap, sym, ℤ, Bool, pos, ◌-ℤ◌}
 use Rattle.exact_arith.proofs.Ranges.{value_kept_64, zero_kept, difference_kept, kept_64}
 use Rattle.ear_cut.specs.PolygonViews.{area, bend, signed}
-use Rattle.ear_cut.specs.inner.Registers.{as_spot}
+use Rattle.ear_cut.specs.Registers.{as_spot}
 use Rattle.ear_cut.proofs.polygon_view.area.Goals as goal
 
 pub returns-then-view : goal.returns-then-view

@@ -1,0 +1,4 @@
+pub mod HoleLoops
+pub mod LoopEdges
+pub mod Bridges
+pub mod inner
