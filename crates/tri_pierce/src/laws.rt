@@ -3,7 +3,7 @@
 ghost use Rattle.std.specs.Prelude.{List, ◌↔◌, IsTrue};
 ghost use Rattle.bim_model.specs.declared.geometry.Triangle.{Triangle};
 ghost use Rattle.bim_model.specs.declared.element.Element.{Element};
-ghost use Rattle.clearance.specs.Near.{Near, ListsNear, ElementsNear};
+ghost use Rattle.clearance.specs.Near.{Near, ElementsNear};
 ghost use Rattle.tri_pierce.specs.Piercing.{Pierces, ListsPierce, ElementsPierce};
 ghost use Rattle.tri_pierce.specs.PiercingSigns.{is_piercing_triangles, is_piercing_lists, is_piercing};
 
