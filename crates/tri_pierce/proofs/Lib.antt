@@ -1,3 +1,4 @@
+pub mod Registers
 pub mod PlaneSides
 pub mod InnerPoints
 pub mod Overlap

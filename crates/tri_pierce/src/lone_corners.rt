@@ -19,10 +19,12 @@ fn are_linked(t: Corners, s: Corners) -> bool
     requires over_s { AloneOver (face_of s) (face_of t) }
     ensures { IsTrue result ↔ FacesPierce (face_of t) (face_of s) }
 {
-    if orient(t.a, t.b, s.a, s.b) >= 0 {
+    let second = orient(t.a, t.b, s.a, s.b);
+    if second >= 0 {
         return false;
     }
-    orient(t.a, t.c, s.a, s.c) > 0
+    let third = orient(t.a, t.c, s.a, s.c);
+    third > 0
 }
 
 /// The same, the first corners being alone above the other's plane or below it.
