@@ -1,8 +1,10 @@
-//! Points of the tests.
-ghost use Rattle.std.specs.Prelude.{◌≤◌, unsigned_abs};
-ghost use Rattle.bim_model.specs.Points.{grid_limit, IsGridPoint};
+//! Points, triangles and elements of the tests.
+ghost use Rattle.std.specs.Prelude.{◌≤◌, unsigned_abs, All, IfOk};
+ghost use Rattle.bim_model.specs.Points.{grid_limit, IsGridPoint, IsInGrid};
+ghost use Rattle.clearance.specs.Near.{ElementInGrid};
 
-use bim_model::{GRID_LIMIT, Point};
+use bim_model::{Element, GRID_LIMIT, Guid, Items, Point, Text, Triangle};
+use std::alloc::{AllocError, Global};
 
 /// A coordinate of the grid; each table holds such.
 fn coordinate(x: i32) -> i32
@@ -26,4 +28,29 @@ pub fn point(p: [i32; 3]) -> Point
         y: coordinate(p[1]),
         z: coordinate(p[2]),
     }
+}
+
+/// A triangle of the grid.
+pub fn triangle(t: [[i32; 3]; 3]) -> Triangle
+    ensures { IsInGrid result }
+{
+    Triangle {
+        a: point(t[0]),
+        b: point(t[1]),
+        c: point(t[2]),
+    }
+}
+
+/// An element with these triangles.
+pub fn element(alloc: Global, guid: Guid, triangles: Vec<Triangle>) -> Result<Element, AllocError>
+    requires { All IsInGrid triangles.items }
+    ensures { IfOk result ElementInGrid }
+{
+    Ok(Element {
+        guid,
+        class: Text::of(alloc, "IFCBEAM")?,
+        name: Text::of(alloc, "")?,
+        storey: None,
+        triangles: Items::from_vec(triangles),
+    })
 }

@@ -180,3 +180,10 @@ pierces_split t s p = heights_split t s (pierce_cross t s p)
 
 pub pierces_swap : (t s : Face) → FacesPierce t s → FacesPierce s t
 pierces_swap t s p = cross_pierce s t (swapped t s (pierce_cross t s p))
+
+-- ---- the code's answers, for faces in other names
+pub chain : {P Q R : Type 0} → P ↔ Q → Q ↔ R → P ↔ R
+chain f g = (λ x. g.0 (f.0 x), λ y. f.1 (g.1 y))
+
+pub pierces_along : {P : Type 0} (t s p q : Face) → t ≡ p → s ≡ q → P ↔ FacesPierce t s → P ↔ FacesPierce p q
+pierces_along {P} t s p q e f h = subst (λ (x : Face). P ↔ FacesPierce p x) f (subst (λ (x : Face). P ↔ FacesPierce x s) e h)
