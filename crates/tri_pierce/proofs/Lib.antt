@@ -4,6 +4,7 @@ pub mod InnerPoints
 pub mod Overlap
 pub mod LoneSigns
 pub mod CornerOrders
+pub mod LoneAnswers
 pub mod DecidedSigns
 pub mod Touching
 pub mod NearPoints
