@@ -2,12 +2,12 @@
 use Rattle.std.proofs.Common.{◌≡◌, ◌≤◌, ◌↔◌, ℤ, pos, ◌<ℤ◌, sym, subst, ap, ◌∙◌}
 use Rattle.std.specs.Prelude.{unsigned_abs}
 use Rattle.exact_arith.specs.Space.{Face}
-use Rattle.exact_arith.proofs.Ranges.{in_128}
+use Rattle.exact_arith.proofs.Ranges.{in_128, bounded}
 use Rattle.tri_exact.specs.Pierce.{height}
 use Rattle.tri_pierce.specs.inner.LoneCorners.{turn_of, Split, Lone, AloneOver, LoneOver, AreHeights}
 use Rattle.tri_pierce.specs.declared.heights.Heights.{Heights}
 use Rattle.tri_pierce.proofs.PlaneSides.{turned_height}
-use Rattle.tri_pierce.proofs.Registers.{seen}
+use Rattle.tri_pierce.proofs.Registers.{kept, seen}
 
 abbrev Small : ℤ → Type 0
 Small a = unsigned_abs a ≤ 24576000000000000000000
@@ -45,3 +45,10 @@ heights_at h t s p q e f k = subst (λ (x : Face). AreHeights h p x) (sym f) (su
 
 pub twice_turned : (t p q : Face) → p ≡ turn_of t → q ≡ turn_of p → q ≡ turn_of (turn_of t)
 twice_turned t p q e f = f ∙ ap (λ (x : Face). turn_of x) e
+
+-- what a test requires of the heights that it is given
+pub held : (a : ℤ) → Small a → Small (in_128 a)
+held a h = bounded (kept a h)
+
+pub split_held : (a b c : ℤ) → Small a → Small b → Small c → Split a b c → Split (in_128 a) (in_128 b) (in_128 c)
+split_held a b c f g h t = split_named a b c (in_128 a) (in_128 b) (in_128 c) (sym (kept a f).same) (sym (kept b g).same) (sym (kept c h).same) t
