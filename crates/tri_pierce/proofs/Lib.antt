@@ -7,4 +7,5 @@ pub mod CornerOrders
 pub mod LoneAnswers
 pub mod DecidedSigns
 pub mod Touching
+pub mod Coordinates
 pub mod NearPoints
