@@ -1,5 +1,5 @@
 -- Coordinates as registers of 32 bits give them back
-use Rattle.std.proofs.Common.{◌≡◌, ◌≤◌, arith, ℤ, ◌≤ℤ◌, IsTrue, sym, subst}
+use Rattle.std.proofs.Common.{◌≤◌, arith, ℤ, ◌≤ℤ◌, IsTrue, sym, subst}
 use Rattle.std.specs.Prelude.{unsigned_abs}
 use Rattle.std.proofs.lemmas.Int.{ints}
 use lib.Signed.{le_z}

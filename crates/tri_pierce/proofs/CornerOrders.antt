@@ -1,5 +1,5 @@
 -- Faces with a common point inside, their corners brought in the order in which the first are alone above the other's plane
-use Rattle.std.proofs.Common.{◌≡◌, ◌↔◌, ◌⊎◌, inl, inr, arith, ℤ, pos, ◌+ℤ◌, ◌-ℤ◌, ◌<ℤ◌, sym, subst}
+use Rattle.std.proofs.Common.{◌≡◌, ◌↔◌, inl, inr, arith, ℤ, pos, ◌+ℤ◌, ◌-ℤ◌, ◌<ℤ◌, sym, subst}
 use Rattle.std.proofs.lemmas.Int.{ints}
 use Rattle.exact_arith.specs.Space.{Face}
 use Rattle.tri_exact.specs.Pierce.{height}

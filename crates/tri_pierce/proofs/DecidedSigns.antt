@@ -14,11 +14,11 @@ use Rattle.tri_exact.specs.Foot.{orient_of}
 use Rattle.tri_exact.specs.Pierce.{height}
 use Rattle.clearance.proofs.Lists.{any_map}
 use Rattle.tri_pierce.specs.Piercing.{FacesPierce, Pierces, PiercesAny, ListsPierce, ElementsPierce}
-use Rattle.tri_pierce.specs.PiercingSigns.{is_alone, is_alone_over, is_linked, face_by, is_in_some_order, is_face_piercing, is_piercing_triangles, is_piercing_lists, is_piercing}
+use Rattle.tri_pierce.specs.PiercingSigns.{is_alone, is_alone_over, is_linked, is_in_some_order, is_face_piercing, is_piercing_triangles, is_piercing_lists, is_piercing}
 use Rattle.tri_pierce.specs.inner.LoneCorners.{Alone, AloneOver}
 use Rattle.tri_pierce.proofs.InnerPoints.{pierce_cross, cross_pierce}
 use Rattle.tri_pierce.proofs.Overlap.{Linked}
-use Rattle.tri_pierce.proofs.CornerOrders.{Order, abc, bca, cab, acb, bac, cba, ordered, Found, found_cross, cross_found, pierces_swap}
+use Rattle.tri_pierce.proofs.CornerOrders.{Order, abc, bca, cab, acb, bac, cba, ordered, found_cross, cross_found, pierces_swap}
 
 -- ---- comparisons
 unless : (t : Bool) → (t ≡ false → ⊥) → t ≡ true

@@ -4,12 +4,12 @@ use Rattle.std.proofs.lemmas.Int.{ints}
 use Rattle.exact_arith.specs.Space.{Vector, minus, times, Face, nowhere}
 use Rattle.tri_exact.specs.Within.{mix3}
 use Rattle.tri_exact.specs.Pierce.{height}
-use Rattle.exact_arith.proofs.Ring.{ring, at, lit, ◌⊕◌, ◌⊖◌, ◌⊗◌}
+use Rattle.exact_arith.proofs.Ring.{ring, at, ◌⊕◌, ◌⊖◌, ◌⊗◌}
 use Rattle.exact_arith.proofs.Order.{mul_positive}
 use Rattle.tri_exact.proofs.Pose.{Pose, gap, same_vector}
 use Rattle.tri_exact.proofs.Weights.{Six, a1, a2, a3, b1, b2, b3, weight}
 use Rattle.tri_exact.proofs.TwoFaces.{swap, turned}
-use Rattle.tri_pierce.specs.Piercing.{CommonPoint, OffPlane, FacesPierce, InPlane}
+use Rattle.tri_pierce.specs.Piercing.{CommonPoint, OffPlane, FacesPierce}
 use Rattle.tri_pierce.specs.inner.LoneCorners.{turn_of, mirror_of}
 use Rattle.tri_pierce.proofs.PlaneSides.{turned_height, mirrored_height, flat, off_area}
 

@@ -1,9 +1,9 @@
 -- Three heights on both sides of a plane: one of them is alone on its side
-use Rattle.std.proofs.Common.{◌≡◌, ◌↔◌, ◌⊎◌, inl, inr, arith, ℤ, pos, ◌+ℤ◌, ◌-ℤ◌, ◌*ℤ◌, ◌≤ℤ◌, ◌<ℤ◌, refl, sym, ◌∙◌, subst, [], ◌∷◌}
+use Rattle.std.proofs.Common.{◌≡◌, ◌↔◌, ◌⊎◌, inl, inr, arith, ℤ, pos, ◌+ℤ◌, ◌-ℤ◌, ◌*ℤ◌, ◌≤ℤ◌, ◌<ℤ◌, refl, ◌∙◌, [], ◌∷◌}
 use Rattle.std.proofs.lemmas.Int.{ints, by_lt_z}
 use Rattle.exact_arith.proofs.Ring.{ring, at, lit, ◌⊕◌, ◌⊖◌, ◌⊗◌}
 use Rattle.exact_arith.proofs.Order.{mul_nonneg}
-use Rattle.tri_pierce.specs.inner.LoneCorners.{SomeAbove, SomeBelow, Split, Alone, Lone}
+use Rattle.tri_pierce.specs.inner.LoneCorners.{SomeAbove, SomeBelow, Split, Lone}
 use Rattle.tri_pierce.proofs.PlaneSides.{zero_factor}
 
 -- ---- heights with weights above 0 whose sum is 0

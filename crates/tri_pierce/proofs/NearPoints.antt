@@ -1,13 +1,12 @@
 -- Faces that pierce are near at the distance 0: they have a common point
-use Rattle.std.proofs.Common.{◌≡◌, arith, ℤ, pos, ◌+ℤ◌, ◌-ℤ◌, ◌*ℤ◌, ◌≤ℤ◌, ◌<ℤ◌, sym, subst}
+use Rattle.std.proofs.Common.{arith, ℤ, pos, ◌-ℤ◌, ◌*ℤ◌, ◌≤ℤ◌, ◌<ℤ◌, sym, subst}
 use Rattle.std.proofs.lemmas.Int.{ints}
 use Rattle.exact_arith.specs.Space.{Vector, dot_of, Face, nowhere}
 use Rattle.bim_model.specs.Points.{shape_of}
 use Rattle.bim_model.specs.declared.geometry.Triangle.{Triangle}
 use Rattle.bim_model.specs.declared.element.Element.{Element}
-use Rattle.tri_exact.proofs.Pose.{gap}
 use Rattle.tri_exact.proofs.Posed.{Posed}
-use Rattle.tri_exact.proofs.Weights.{Six, a1, a2, a3, weight}
+use Rattle.tri_exact.proofs.Weights.{a1, a2, a3, weight}
 use Rattle.clearance.specs.Near.{FacesNear, Near, NearAny, ElementsNear}
 use Rattle.clearance.proofs.NearTest.{near_yes}
 use Rattle.clearance.proofs.Lists.{any_map}

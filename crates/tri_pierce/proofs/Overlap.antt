@@ -1,5 +1,5 @@
 -- Faces whose first corners are alone above each other's plane: they have a point inside both exactly where two volumes have the right signs
-use Rattle.std.proofs.Common.{◌≡◌, arith, ℤ, pos, ◌+ℤ◌, ◌-ℤ◌, ◌*ℤ◌, ◌≤ℤ◌, ◌<ℤ◌, refl, sym, ap, ◌∙◌, List, [], ◌∷◌}
+use Rattle.std.proofs.Common.{◌≡◌, arith, ℤ, pos, ◌+ℤ◌, ◌-ℤ◌, ◌*ℤ◌, ◌≤ℤ◌, ◌<ℤ◌, refl, sym, ap, ◌∙◌, [], ◌∷◌}
 use Rattle.std.proofs.lemmas.Int.{ints, by_lt_z}
 use Rattle.exact_arith.specs.Space.{Vector, minus, dot_of, cross_of, Face, normal, nowhere}
 use Rattle.tri_exact.specs.Foot.{orient_of}

@@ -7,7 +7,7 @@
 -- along an edge don't pierce, nor do two in one plane. Two elements pierce where a triangle of one and a
 -- triangle of the other do.
 use Rattle.std.specs.Prelude.{ℤ, pos, ◌+ℤ◌, ◌<ℤ◌, ◌≡◌, ◌⊎◌, List, Any}
-use Rattle.exact_arith.specs.Space.{Vector, times, Face}
+use Rattle.exact_arith.specs.Space.{times, Face}
 use Rattle.tri_exact.specs.Within.{mix3, HasArea}
 use Rattle.tri_exact.specs.Pierce.{height}
 use Rattle.bim_model.specs.Points.{shape_of}

@@ -1,4 +1,4 @@
-use Rattle.std.proofs.Common.{◌↔◌, Bool, IsTrue, ℤ, pos, ◌≤ℤ◌, ◌<ℤ◌, subst}
+use Rattle.std.proofs.Common.{◌↔◌, Bool, IsTrue, ℤ, pos, ◌≤ℤ◌, ◌<ℤ◌}
 use Rattle.tri_exact.proofs.Choice.{not_both}
 use Rattle.exact_arith.proofs.Ranges.{in_128}
 use Rattle.tri_pierce.proofs.Registers.{seen}

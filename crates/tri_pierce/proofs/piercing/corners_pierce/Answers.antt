@@ -1,4 +1,4 @@
-use Rattle.std.proofs.Common.{◌≡◌, ℤ, sym, subst}
+use Rattle.std.proofs.Common.{ℤ, sym, subst}
 use Rattle.exact_arith.specs.Space.{Face}
 use Rattle.tri_exact.specs.Pierce.{height}
 use Rattle.tri_exact.proofs.Choice.{not_both}
