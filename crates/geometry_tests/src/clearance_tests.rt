@@ -1,28 +1,16 @@
 //! Triangles and elements within a distance, by hand and by another program.
-ghost use Rattle.std.specs.Prelude.{◌≤◌, ◌≡◌, ◌<◌, All, IfOk};
-ghost use Rattle.bim_model.specs.Points.{IsInGrid};
+ghost use Rattle.std.specs.Prelude.{◌≤◌, ◌≡◌, ◌<◌};
 ghost use Rattle.tri_exact.specs.ProductLimits.{distance_limit};
 ghost use Rattle.clearance.specs.Near.{ElementInGrid};
 
-use crate::sample_points::point;
-use bim_model::{Element, GRID_LIMIT, Guid, Items, Steps, Text, Triangle};
+use crate::sample_points::{element, triangle};
+use bim_model::{Element, GRID_LIMIT, Guid, Steps};
 use clearance::{near, solids_near};
-use std::alloc::{AllocError, Global};
 use std::marker::Brand;
 use std::process::Abort;
 use std::sync::ledger::{Blank, Ledger};
 use std::test::Fail;
 use tri_exact::DISTANCE_LIMIT;
-
-fn triangle(t: [[i32; 3]; 3]) -> Triangle
-    ensures { IsInGrid result }
-{
-    Triangle {
-        a: point(t[0]),
-        b: point(t[1]),
-        c: point(t[2]),
-    }
-}
 
 /// Near at the least distance, in both orders, and not a grid number below; 10,001 is beyond all distances.
 fn near_from(rt: &impl Abort, p: [[i32; 3]; 3], q: [[i32; 3]; 3], least: u32) {
@@ -129,19 +117,6 @@ fn triangles_of_another_program_are_near_from_their_distance_on(rt: HostRuntime)
     for row in PAIRS.chunks(19) {
         row_from(&rt, row);
     }
-}
-
-fn element(alloc: Global, guid: Guid, triangles: Vec<Triangle>) -> Result<Element, AllocError>
-    requires { All IsInGrid triangles.items }
-    ensures { IfOk result ElementInGrid }
-{
-    Ok(Element {
-        guid,
-        class: Text::of(alloc, "IFCBEAM")?,
-        name: Text::of(alloc, "")?,
-        storey: None,
-        triangles: Items::from_vec(triangles),
-    })
 }
 
 fn elements_near<L: Ledger>(blank: Blank, first: &Element, second: &Element, d: u32) -> bool

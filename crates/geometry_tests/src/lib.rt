@@ -1,4 +1,5 @@
-//! Tests of the geometry: exact predicates, distances, polygons that are cut, loops that are joined, and boxes within a gap.
+//! Tests of the geometry: exact predicates, distances, triangles that pierce, polygons that are cut, loops that are joined, and boxes
+//! within a gap.
 #![tactic(auto)]
 
 #[cfg(test)]
@@ -9,6 +10,8 @@ mod clearance_tests;
 mod ear_tests;
 #[cfg(test)]
 mod lane_tests;
+#[cfg(test)]
+mod piercing_tests;
 #[cfg(test)]
 mod predicate_tests;
 #[cfg(test)]

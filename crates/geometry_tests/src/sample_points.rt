@@ -1,8 +1,9 @@
-//! Points of the tests.
+//! Points, triangles and elements of the tests.
 ghost use Rattle.std.specs.Prelude.{◌≡◌, ◌≤◌, unsigned_abs, length, All, IfOk};
-ghost use Rattle.bim_model.specs.Points.{grid_limit, IsGridPoint};
+ghost use Rattle.bim_model.specs.Points.{grid_limit, IsGridPoint, IsInGrid};
+ghost use Rattle.clearance.specs.Near.{ElementInGrid};
 
-use bim_model::{GRID_LIMIT, Point};
+use bim_model::{Element, GRID_LIMIT, Guid, Items, Point, Text, Triangle};
 use std::alloc::{AllocError, Global};
 
 /// A coordinate of the grid; each table holds such.
@@ -39,4 +40,29 @@ pub fn polygon(alloc: Global, corners: &[[i32; 3]]) -> Result<Vec<Point>, AllocE
         made.push(point(*corner))?;
     }
     Ok(made)
+}
+
+/// A triangle of the grid.
+pub fn triangle(t: [[i32; 3]; 3]) -> Triangle
+    ensures { IsInGrid result }
+{
+    Triangle {
+        a: point(t[0]),
+        b: point(t[1]),
+        c: point(t[2]),
+    }
+}
+
+/// An element with these triangles.
+pub fn element(alloc: Global, guid: Guid, triangles: Vec<Triangle>) -> Result<Element, AllocError>
+    requires { All IsInGrid triangles.items }
+    ensures { IfOk result ElementInGrid }
+{
+    Ok(Element {
+        guid,
+        class: Text::of(alloc, "IFCBEAM")?,
+        name: Text::of(alloc, "")?,
+        storey: None,
+        triangles: Items::from_vec(triangles),
+    })
 }

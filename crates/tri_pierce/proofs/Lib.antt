@@ -1,0 +1,11 @@
+pub mod Registers
+pub mod PlaneSides
+pub mod InnerPoints
+pub mod Overlap
+pub mod LoneSigns
+pub mod CornerOrders
+pub mod LoneAnswers
+pub mod DecidedSigns
+pub mod Touching
+pub mod Coordinates
+pub mod NearPoints

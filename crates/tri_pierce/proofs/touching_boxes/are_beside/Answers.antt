@@ -1,0 +1,81 @@
+use Rattle.std.proofs.Common.{◌⊎◌, inl, inr, ℤ}
+use Rattle.clearance.proofs.Words.{in_32}
+use Rattle.tri_pierce.specs.inner.TouchingBoxes.{Before}
+use Rattle.tri_pierce.proofs.Coordinates.{Small, held_32, before_named}
+use Rattle.tri_pierce.proofs.Touching.{beside_x, beside_y, beside_z}
+use Rattle.tri_pierce.proofs.touching_boxes.are_beside.Goals as goal
+
+-- what the test of six coordinates told, by their names
+named : (a b c p q r : ℤ) → Small a → Small b → Small c → Small p → Small q → Small r →
+    Before (in_32 a) (in_32 b) (in_32 c) (in_32 p) (in_32 q) (in_32 r) ⊎ Before (in_32 p) (in_32 q) (in_32 r) (in_32 a) (in_32 b) (in_32 c) → Before a b c p q r ⊎ Before p q r a b c
+named a b c p q r ha hb hc hp hq hr (inl k) = inl (before_named a b c p q r ha hb hc hp hq hr k)
+named a b c p q r ha hb hc hp hq hr (inr k) = inr (before_named p q r a b c hp hq hr ha hb hc k)
+
+pub is_beside-requires-clause-a_in : goal.is_beside-requires-clause-a_in
+is_beside-requires-clause-a_in c = held_32 c.args.p.now.a.x c.requires.p_in.a_in.x_in
+
+pub is_beside-requires-clause-b_in : goal.is_beside-requires-clause-b_in
+is_beside-requires-clause-b_in c = held_32 c.args.p.now.b.x c.requires.p_in.b_in.x_in
+
+pub is_beside-requires-clause-c_in : goal.is_beside-requires-clause-c_in
+is_beside-requires-clause-c_in c = held_32 c.args.p.now.c.x c.requires.p_in.c_in.x_in
+
+pub is_beside-requires-clause-p_in : goal.is_beside-requires-clause-p_in
+is_beside-requires-clause-p_in c = held_32 c.args.q.now.a.x c.requires.q_in.a_in.x_in
+
+pub is_beside-requires-clause-q_in : goal.is_beside-requires-clause-q_in
+is_beside-requires-clause-q_in c = held_32 c.args.q.now.b.x c.requires.q_in.b_in.x_in
+
+pub is_beside-requires-clause-r_in : goal.is_beside-requires-clause-r_in
+is_beside-requires-clause-r_in c = held_32 c.args.q.now.c.x c.requires.q_in.c_in.x_in
+
+pub is_beside-requires-2-clause-a_in : goal.is_beside-requires-2-clause-a_in
+is_beside-requires-2-clause-a_in c = held_32 c.args.p.now.a.y c.requires.p_in.a_in.y_in
+
+pub is_beside-requires-2-clause-b_in : goal.is_beside-requires-2-clause-b_in
+is_beside-requires-2-clause-b_in c = held_32 c.args.p.now.b.y c.requires.p_in.b_in.y_in
+
+pub is_beside-requires-2-clause-c_in : goal.is_beside-requires-2-clause-c_in
+is_beside-requires-2-clause-c_in c = held_32 c.args.p.now.c.y c.requires.p_in.c_in.y_in
+
+pub is_beside-requires-2-clause-p_in : goal.is_beside-requires-2-clause-p_in
+is_beside-requires-2-clause-p_in c = held_32 c.args.q.now.a.y c.requires.q_in.a_in.y_in
+
+pub is_beside-requires-2-clause-q_in : goal.is_beside-requires-2-clause-q_in
+is_beside-requires-2-clause-q_in c = held_32 c.args.q.now.b.y c.requires.q_in.b_in.y_in
+
+pub is_beside-requires-2-clause-r_in : goal.is_beside-requires-2-clause-r_in
+is_beside-requires-2-clause-r_in c = held_32 c.args.q.now.c.y c.requires.q_in.c_in.y_in
+
+pub is_beside-requires-3-clause-a_in : goal.is_beside-requires-3-clause-a_in
+is_beside-requires-3-clause-a_in c = held_32 c.args.p.now.a.z c.requires.p_in.a_in.z_in
+
+pub is_beside-requires-3-clause-b_in : goal.is_beside-requires-3-clause-b_in
+is_beside-requires-3-clause-b_in c = held_32 c.args.p.now.b.z c.requires.p_in.b_in.z_in
+
+pub is_beside-requires-3-clause-c_in : goal.is_beside-requires-3-clause-c_in
+is_beside-requires-3-clause-c_in c = held_32 c.args.p.now.c.z c.requires.p_in.c_in.z_in
+
+pub is_beside-requires-3-clause-p_in : goal.is_beside-requires-3-clause-p_in
+is_beside-requires-3-clause-p_in c = held_32 c.args.q.now.a.z c.requires.q_in.a_in.z_in
+
+pub is_beside-requires-3-clause-q_in : goal.is_beside-requires-3-clause-q_in
+is_beside-requires-3-clause-q_in c = held_32 c.args.q.now.b.z c.requires.q_in.b_in.z_in
+
+pub is_beside-requires-3-clause-r_in : goal.is_beside-requires-3-clause-r_in
+is_beside-requires-3-clause-r_in c = held_32 c.args.q.now.c.z c.requires.q_in.c_in.z_in
+
+pub returns-then-is_beside : goal.returns-then-is_beside
+returns-then-is_beside c =
+    let p = c.args.p.now in let q = c.args.q.now in let f = c.requires.p_in in let g = c.requires.q_in in
+    λ x. beside_x p q (named p.a.x p.b.x p.c.x q.a.x q.b.x q.c.x f.a_in.x_in f.b_in.x_in f.c_in.x_in g.a_in.x_in g.b_in.x_in g.c_in.x_in (c.is_beside.ensures c.if-is_beside.true))
+
+pub returns-then-is_beside-2 : goal.returns-then-is_beside-2
+returns-then-is_beside-2 c =
+    let p = c.args.p.now in let q = c.args.q.now in let f = c.requires.p_in in let g = c.requires.q_in in
+    λ x. beside_y p q (named p.a.y p.b.y p.c.y q.a.y q.b.y q.c.y f.a_in.y_in f.b_in.y_in f.c_in.y_in g.a_in.y_in g.b_in.y_in g.c_in.y_in (c.is_beside-2.ensures c.if-is_beside-2.true))
+
+pub returns : goal.returns
+returns c =
+    let p = c.args.p.now in let q = c.args.q.now in let f = c.requires.p_in in let g = c.requires.q_in in
+    λ x. beside_z p q (named p.a.z p.b.z p.c.z q.a.z q.b.z q.c.z f.a_in.z_in f.b_in.z_in f.c_in.z_in g.a_in.z_in g.b_in.z_in g.c_in.z_in (c.is_beside-3.ensures x))

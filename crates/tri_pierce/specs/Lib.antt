@@ -1,0 +1,3 @@
+pub mod Piercing
+pub mod PiercingSigns
+pub mod inner

@@ -1,0 +1,2 @@
+pub mod LoneCorners
+pub mod TouchingBoxes

@@ -1,0 +1,54 @@
+//! Whether two elements pierce each other.
+// Lists of triangles, and elements.
+ghost use Rattle.std.specs.Prelude.{◌≡◌, ◌+◌, ◌↔◌, IsTrue, All};
+ghost use Rattle.bim_model.specs.Points.{IsInGrid};
+ghost use Rattle.clearance.specs.Near.{ElementInGrid};
+ghost use Rattle.tri_pierce.specs.Piercing.{PiercesAny, ListsPierce, ElementsPierce};
+ghost use Rattle.tri_pierce.specs.PiercingSigns.{is_piercing_lists, is_piercing};
+
+use crate::piercing::pierces;
+use bim_model::{Element, Steps, Triangle};
+use std::sync::ledger::Ledger;
+
+/// Whether p and a triangle of the list pierce.
+#[inline(always)]
+fn pierces_any(p: &Triangle, qs: &[Triangle]) -> bool
+    requires p_in { IsInGrid p.now }
+    requires qs_in { All IsInGrid qs.now }
+    ensures { IsTrue result ↔ PiercesAny p.now qs.now }
+{
+    for q in qs {
+        if pierces(p, q) {
+            return true;
+        }
+    }
+    false
+}
+
+/// Whether a triangle of one list and a triangle of the other pierce. It takes no memory.
+pub fn lists_pierce(ps: &[Triangle], qs: &[Triangle]) -> bool
+    requires ps_in { All IsInGrid ps.now }
+    requires qs_in { All IsInGrid qs.now }
+    ensures pierce { IsTrue result ↔ ListsPierce ps.now qs.now }
+    ensures value { result ≡ is_piercing_lists ps.now qs.now }
+{
+    for p in ps {
+        if pierces_any(p, qs) {
+            return true;
+        }
+    }
+    false
+}
+
+/// Whether two elements pierce: whether a triangle of the one and a triangle of the other do. It takes no memory, and
+/// exactly one step.
+pub fn solids_pierce<L: Ledger>(a: &Element, b: &Element, steps: &mut Steps<L>) -> bool
+    requires a_in { ElementInGrid a.now }
+    requires b_in { ElementInGrid b.now }
+    ensures pierce { IsTrue result ↔ ElementsPierce a.now b.now }
+    ensures value { result ≡ is_piercing a.now b.now }
+    ensures step { steps.new ≡ steps.old + 1 }
+{
+    steps.tick();
+    lists_pierce(a.triangles.as_slice(), b.triangles.as_slice())
+}
