@@ -60,11 +60,6 @@ edge_last view cs i base old new p q h k e f m n =
     behind base old new (edges_along view (take i cs)) p q (spot_at view cs (i - 1)) (spot_at view cs 0) e f m n
     ∙ ap (λ (l : List Segment). base ++ l) (sym (round_last view cs i h k))
 
--- before the first edge there is none
-pub along_one : (view : View) (cs : List Corner) → edges_along view (take 1 cs) ≡ []
-along_one view [] = refl
-along_one view (c ∷ cs) = refl
-
 -- one loop more
 pub loop_more : (view : View) (loops : List (List Corner)) (i : ℕ) (base old new : List Segment) (loop : List Corner) → i < length loops → loop ≡ slice_index_or loops i []
     → old ≡ base ++ flat_map (edges_round view) (take i loops) → new ≡ old ++ edges_round view loop → new ≡ base ++ flat_map (edges_round view) (take (i + 1) loops)

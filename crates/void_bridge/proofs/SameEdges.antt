@@ -24,10 +24,6 @@ or_comm true false = refl
 or_comm false true = refl
 or_comm false false = refl
 
-or_assoc : (x y z : Bool) → (x || y) || z ≡ x || (y || z)
-or_assoc true y z = refl
-or_assoc false y z = refl
-
 -- the tests of a way there and back, of what lies between and of what comes behind
 or_detour : (there back r c : Bool) → there || (r || (back || c)) ≡ c || (r || (there || (back || false)))
 or_detour true back r true = refl
@@ -46,9 +42,6 @@ same_lists xs ys e = λ test. ap (list_any test) e
 
 same_on : (xs ys zs : List Segment) → AreSame xs ys → AreSame ys zs → AreSame xs zs
 same_on xs ys zs e f = λ test. e test ∙ f test
-
-same_back : (xs ys : List Segment) → AreSame xs ys → AreSame ys xs
-same_back xs ys e = λ test. sym (e test)
 
 same_append : (xs ys us vs : List Segment) → AreSame xs ys → AreSame us vs → AreSame (xs ++ us) (ys ++ vs)
 same_append xs ys us vs e f = λ test.
