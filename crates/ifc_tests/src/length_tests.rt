@@ -2,307 +2,165 @@
 use bim_model::Mode;
 use bim_text::Decimal;
 use ifc_units::{FOOT, GridFault, INCH, Scale, to_grid};
-use std::test::Fail;
+use std::process::Abort;
 
-const KILOMETRES: Scale = Scale {
-    factor: 1,
-    power: 6,
-};
-
-const METRES: Scale = Scale {
-    factor: 1,
-    power: 3,
-};
-
-const MILLIMETRES: Scale = Scale {
-    factor: 1,
-    power: 0,
-};
-
-const MICROMETRES: Scale = Scale {
-    factor: 1,
-    power: -3,
-};
-
-const INCHES: Scale = Scale {
-    factor: INCH,
-    power: -1,
-};
-
-const FEET: Scale = Scale {
-    factor: FOOT,
-    power: -1,
-};
-
-/// A number in a unit, and its grid number in exact mode and in snap mode.
-#[derive(Clone, Copy)]
-struct Length {
-    text: &'static [u8],
-    unit: Scale,
-    exact: Result<i32, GridFault>,
-    snap: Result<i32, GridFault>,
+enum Unit {
+    Kilometres,
+    Metres,
+    Millimetres,
+    Micrometres,
+    Inches,
+    Feet,
 }
 
-const LENGTHS: [Length; 40] = [
-    Length {
-        text: b"2.9999999999999996",
-        unit: METRES,
-        exact: Ok(30_000),
-        snap: Ok(30_000),
-    },
-    Length {
-        text: b"3",
-        unit: METRES,
-        exact: Ok(30_000),
-        snap: Ok(30_000),
-    },
-    Length {
-        text: b"0.0005",
-        unit: METRES,
-        exact: Ok(5),
-        snap: Ok(5),
-    },
-    Length {
-        text: b"0.00005",
-        unit: METRES,
-        exact: Err(GridFault::OffGrid),
-        snap: Ok(1),
-    },
-    Length {
-        text: b"-0.00005",
-        unit: METRES,
-        exact: Err(GridFault::OffGrid),
-        snap: Ok(-1),
-    },
-    Length {
-        text: b"0.000049999",
-        unit: METRES,
-        exact: Err(GridFault::OffGrid),
-        snap: Ok(0),
-    },
-    Length {
-        text: b"12.5",
-        unit: MILLIMETRES,
-        exact: Ok(125),
-        snap: Ok(125),
-    },
-    Length {
-        text: b"12.55",
-        unit: MILLIMETRES,
-        exact: Err(GridFault::OffGrid),
-        snap: Ok(126),
-    },
-    Length {
-        text: b"-12.55",
-        unit: MILLIMETRES,
-        exact: Err(GridFault::OffGrid),
-        snap: Ok(-126),
-    },
-    Length {
-        text: b"12.549",
-        unit: MILLIMETRES,
-        exact: Err(GridFault::OffGrid),
-        snap: Ok(125),
-    },
-    Length {
-        text: b"7.001",
-        unit: MILLIMETRES,
-        exact: Err(GridFault::OffGrid),
-        snap: Ok(70),
-    },
-    Length {
-        text: b"7.0009999",
-        unit: MILLIMETRES,
-        exact: Ok(70),
-        snap: Ok(70),
-    },
-    Length {
-        text: b"6.999",
-        unit: MILLIMETRES,
-        exact: Err(GridFault::OffGrid),
-        snap: Ok(70),
-    },
-    Length {
-        text: b"-6.9990001",
-        unit: MILLIMETRES,
-        exact: Ok(-70),
-        snap: Ok(-70),
-    },
-    Length {
-        text: b"0",
-        unit: KILOMETRES,
-        exact: Ok(0),
-        snap: Ok(0),
-    },
-    Length {
-        text: b"1e-400",
-        unit: MICROMETRES,
-        exact: Ok(0),
-        snap: Ok(0),
-    },
-    Length {
-        text: b"800",
-        unit: METRES,
-        exact: Ok(8_000_000),
-        snap: Ok(8_000_000),
-    },
-    Length {
-        text: b"-800000.0001",
-        unit: MILLIMETRES,
-        exact: Ok(-8_000_000),
-        snap: Ok(-8_000_000),
-    },
-    Length {
-        text: b"800000.1",
-        unit: MILLIMETRES,
-        exact: Err(GridFault::TooFar),
-        snap: Err(GridFault::TooFar),
-    },
-    Length {
-        text: b"800000.05",
-        unit: MILLIMETRES,
-        exact: Err(GridFault::OffGrid),
-        snap: Err(GridFault::TooFar),
-    },
-    Length {
-        text: b"1e400",
-        unit: KILOMETRES,
-        exact: Err(GridFault::TooFar),
-        snap: Err(GridFault::TooFar),
-    },
-    Length {
-        text: b"9999999999999999999999999999999999e-37",
-        unit: MILLIMETRES,
-        exact: Ok(0),
-        snap: Ok(0),
-    },
-    Length {
-        text: b"9999999999999999999999999999999999e-34",
-        unit: MILLIMETRES,
-        exact: Ok(10),
-        snap: Ok(10),
-    },
-    Length {
-        text: b"25.4",
-        unit: MICROMETRES,
-        exact: Err(GridFault::OffGrid),
-        snap: Ok(0),
-    },
-    Length {
-        text: b"1",
-        unit: INCHES,
-        exact: Ok(254),
-        snap: Ok(254),
-    },
-    Length {
-        text: b"-1",
-        unit: INCHES,
-        exact: Ok(-254),
-        snap: Ok(-254),
-    },
-    Length {
-        text: b"0.5",
-        unit: INCHES,
-        exact: Ok(127),
-        snap: Ok(127),
-    },
-    Length {
-        text: b"0.25",
-        unit: INCHES,
-        exact: Err(GridFault::OffGrid),
-        snap: Ok(64),
-    },
-    Length {
-        text: b"-0.25",
-        unit: INCHES,
-        exact: Err(GridFault::OffGrid),
-        snap: Ok(-64),
-    },
-    Length {
-        text: b"1",
-        unit: FEET,
-        exact: Ok(3048),
-        snap: Ok(3048),
-    },
-    Length {
-        text: b"0.125",
-        unit: FEET,
-        exact: Ok(381),
-        snap: Ok(381),
-    },
-    Length {
-        text: b"0.1",
-        unit: FEET,
-        exact: Err(GridFault::OffGrid),
-        snap: Ok(305),
-    },
-    Length {
-        text: b"3333333333333333333333333333333333e-34",
-        unit: FEET,
-        exact: Ok(1016),
-        snap: Ok(1016),
-    },
-    Length {
-        text: b"2624.671916",
-        unit: FEET,
-        exact: Ok(8_000_000),
-        snap: Ok(8_000_000),
-    },
-    Length {
-        text: b"2624.672244",
-        unit: FEET,
-        exact: Err(GridFault::TooFar),
-        snap: Err(GridFault::TooFar),
-    },
-    Length {
-        text: b"2624.6722",
-        unit: FEET,
-        exact: Err(GridFault::OffGrid),
-        snap: Err(GridFault::TooFar),
-    },
+fn scale(unit: &Unit) -> Scale {
+    let (factor, power) = match unit {
+        Unit::Kilometres => (1, 6),
+        Unit::Metres => (1, 3),
+        Unit::Millimetres => (1, 0),
+        Unit::Micrometres => (1, -3),
+        Unit::Inches => (INCH, -1),
+        Unit::Feet => (FOOT, -1),
+    };
+    Scale { factor, power }
+}
+
+/// A grid number.
+type Number = Result<i32, GridFault>;
+
+/// A length in a unit, and its grid number in exact mode and in snap mode.
+static LENGTHS: [(&str, Unit, Number, Number); 40] = [
+    ("2.9999999999999996", Unit::Metres, Ok(30_000), Ok(30_000)),
+    ("3", Unit::Metres, Ok(30_000), Ok(30_000)),
+    ("0.0005", Unit::Metres, Ok(5), Ok(5)),
+    ("0.00005", Unit::Metres, Err(GridFault::OffGrid), Ok(1)),
+    ("-0.00005", Unit::Metres, Err(GridFault::OffGrid), Ok(-1)),
+    ("0.000049999", Unit::Metres, Err(GridFault::OffGrid), Ok(0)),
+    ("12.5", Unit::Millimetres, Ok(125), Ok(125)),
+    ("12.55", Unit::Millimetres, Err(GridFault::OffGrid), Ok(126)),
+    (
+        "-12.55",
+        Unit::Millimetres,
+        Err(GridFault::OffGrid),
+        Ok(-126),
+    ),
+    (
+        "12.549",
+        Unit::Millimetres,
+        Err(GridFault::OffGrid),
+        Ok(125),
+    ),
+    ("7.001", Unit::Millimetres, Err(GridFault::OffGrid), Ok(70)),
+    ("7.0009999", Unit::Millimetres, Ok(70), Ok(70)),
+    ("6.999", Unit::Millimetres, Err(GridFault::OffGrid), Ok(70)),
+    ("-6.9990001", Unit::Millimetres, Ok(-70), Ok(-70)),
+    ("0", Unit::Kilometres, Ok(0), Ok(0)),
+    ("1e-400", Unit::Micrometres, Ok(0), Ok(0)),
+    ("800", Unit::Metres, Ok(8_000_000), Ok(8_000_000)),
+    (
+        "-800000.0001",
+        Unit::Millimetres,
+        Ok(-8_000_000),
+        Ok(-8_000_000),
+    ),
+    (
+        "800000.1",
+        Unit::Millimetres,
+        Err(GridFault::TooFar),
+        Err(GridFault::TooFar),
+    ),
+    (
+        "800000.05",
+        Unit::Millimetres,
+        Err(GridFault::OffGrid),
+        Err(GridFault::TooFar),
+    ),
+    (
+        "1e400",
+        Unit::Kilometres,
+        Err(GridFault::TooFar),
+        Err(GridFault::TooFar),
+    ),
+    (
+        "9999999999999999999999999999999999e-37",
+        Unit::Millimetres,
+        Ok(0),
+        Ok(0),
+    ),
+    (
+        "9999999999999999999999999999999999e-34",
+        Unit::Millimetres,
+        Ok(10),
+        Ok(10),
+    ),
+    ("25.4", Unit::Micrometres, Err(GridFault::OffGrid), Ok(0)),
+    ("1", Unit::Inches, Ok(254), Ok(254)),
+    ("-1", Unit::Inches, Ok(-254), Ok(-254)),
+    ("0.5", Unit::Inches, Ok(127), Ok(127)),
+    ("0.25", Unit::Inches, Err(GridFault::OffGrid), Ok(64)),
+    ("-0.25", Unit::Inches, Err(GridFault::OffGrid), Ok(-64)),
+    ("1", Unit::Feet, Ok(3048), Ok(3048)),
+    ("0.125", Unit::Feet, Ok(381), Ok(381)),
+    ("0.1", Unit::Feet, Err(GridFault::OffGrid), Ok(305)),
+    (
+        "3333333333333333333333333333333333e-34",
+        Unit::Feet,
+        Ok(1016),
+        Ok(1016),
+    ),
+    ("2624.671916", Unit::Feet, Ok(8_000_000), Ok(8_000_000)),
+    (
+        "2624.672244",
+        Unit::Feet,
+        Err(GridFault::TooFar),
+        Err(GridFault::TooFar),
+    ),
+    (
+        "2624.6722",
+        Unit::Feet,
+        Err(GridFault::OffGrid),
+        Err(GridFault::TooFar),
+    ),
     // a third of a grid number, and a bit more and a bit less than a hundredth of one, of 34 digits
-    Length {
-        text: b"9999999999999999999999999999999999e-38",
-        unit: FEET,
-        exact: Err(GridFault::OffGrid),
-        snap: Ok(0),
-    },
-    Length {
-        text: b"3280839895013123359580052493438321e-39",
-        unit: FEET,
-        exact: Err(GridFault::OffGrid),
-        snap: Ok(0),
-    },
-    Length {
-        text: b"3280839895013123359580052493438320e-39",
-        unit: FEET,
-        exact: Ok(0),
-        snap: Ok(0),
-    },
-    Length {
-        text: b"9999999999999999999999999999999999e-40",
-        unit: FEET,
-        exact: Ok(0),
-        snap: Ok(0),
-    },
+    (
+        "9999999999999999999999999999999999e-38",
+        Unit::Feet,
+        Err(GridFault::OffGrid),
+        Ok(0),
+    ),
+    (
+        "3280839895013123359580052493438321e-39",
+        Unit::Feet,
+        Err(GridFault::OffGrid),
+        Ok(0),
+    ),
+    (
+        "3280839895013123359580052493438320e-39",
+        Unit::Feet,
+        Ok(0),
+        Ok(0),
+    ),
+    (
+        "9999999999999999999999999999999999e-40",
+        Unit::Feet,
+        Ok(0),
+        Ok(0),
+    ),
 ];
 
-#[test]
-fn lengths_are_put_on_the_grid(rt: HostRuntime) -> Result<(), Fail> {
-    for row in LENGTHS {
-        let number = Decimal::read(row.text).ok_or("no number")?;
-        assert_eq!(rt;
-            to_grid(number, row.unit, Mode::Exact),
-            row.exact,
-            "{:?}",
-            row.text
-        );
-        assert_eq!(rt;
-            to_grid(number, row.unit, Mode::Snap),
-            row.snap,
-            "{:?}",
-            row.text
-        );
+fn assert_length(rt: &impl Abort, spelled: &str, unit: Scale, exact: Number, snap: Number) {
+    match Decimal::read(spelled.as_bytes()) {
+        Some(number) => {
+            assert_eq!(rt; to_grid(number, unit, Mode::Exact), exact, "at {spelled}");
+            assert_eq!(rt; to_grid(number, unit, Mode::Snap), snap, "at {spelled}");
+        }
+        None => assert!(rt; false, "no number at {spelled}"),
     }
-    Ok(())
+}
+
+#[test]
+fn lengths_are_put_on_the_grid(rt: HostRuntime) {
+    for (spelled, unit, exact, snap) in LENGTHS.iter() {
+        assert_length(&rt, spelled, scale(unit), *exact, *snap);
+    }
 }

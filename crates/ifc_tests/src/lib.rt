@@ -8,6 +8,8 @@ mod generator_tests;
 #[cfg(test)]
 mod length_tests;
 #[cfg(test)]
+mod small_files;
+#[cfg(test)]
 mod survey_tests;
 #[cfg(test)]
 mod tree_tests;

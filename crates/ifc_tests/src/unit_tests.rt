@@ -1,18 +1,19 @@
 //! Length units and points of small files.
-use bim_model::{Mode, Point, UploadFault};
+use crate::small_files::{exchange_in_parts, exchange_of};
+use bim_model::{BuildError, Mode, Point, UploadFault};
 use ifc_units::{
     FOOT, GridFault, INCH, LengthError, Scale, fault_of_points, length, length_unit, point, points,
 };
-use p21_reader::{Exchange, read};
-use std::alloc::Global;
+use p21_reader::{Exchange, Values};
+use std::alloc::{AllocError, Global};
+use std::process::Abort;
 use std::test::Fail;
 
-const HEAD: &[u8] = b"ISO-10303-21;HEADER;FILE_SCHEMA(('IFC4'));ENDSEC;DATA;";
+/// The factor and the power of a file's unit, or the number that the fault has.
+type Unit = Result<(u64, i32), u64>;
 
-const TAIL: &[u8] = b"ENDSEC;END-ISO-10303-21;";
-
-/// The instances of a file, and the factor and the power of its unit or the number that the fault has.
-const UNITS: [(&[u8], Result<(u64, i32), u64>); 33] = [
+/// The instances of a file, and its unit.
+static UNITS: [(&[u8], Unit); 33] = [
     (
         b"#1=IFCPROJECT($,$,$,$,$,$,$,$,#2);#2=IFCUNITASSIGNMENT((#3));#3=IFCSIUNIT(*,.LENGTHUNIT.,.MILLI.,.METRE.);",
         Ok((1, 0)),
@@ -147,41 +148,33 @@ const UNITS: [(&[u8], Result<(u64, i32), u64>); 33] = [
     ),
 ];
 
-fn file(alloc: Global, text: &[u8]) -> Result<Exchange, Fail> {
-    let mut bytes = Vec::new(alloc);
-    bytes.extend_from_slice(HEAD)?;
-    bytes.extend_from_slice(text)?;
-    bytes.extend_from_slice(TAIL)?;
-    let exchange = read(alloc, bytes.as_slice()).ok().ok_or("refused")?;
-    Ok(exchange)
-}
-
-/// The factor and the power of a file's unit, or the number that the fault has.
-fn unit_of(alloc: Global, text: &[u8]) -> Result<Result<(u64, i32), u64>, Fail> {
-    let exchange = file(alloc, text)?;
-    Ok(match length_unit(&exchange) {
+fn unit_of(exchange: &Exchange) -> Unit {
+    match length_unit(exchange) {
         Ok(scale) => Ok((scale.factor, scale.power)),
         Err(UploadFault::LengthUnit { id }) => Err(id),
         Err(_) => Err(99),
-    })
+    }
 }
 
 #[test]
 fn the_length_unit_is_found(rt: HostRuntime) -> Result<(), Fail> {
-    for (text, wanted) in UNITS {
-        assert_eq!(rt; unit_of(rt.alloc(), text)?, wanted);
+    for (text, wanted) in UNITS.iter() {
+        let exchange = exchange_of(rt.alloc(), text)?;
+        let found = unit_of(&exchange);
+        drop(exchange);
+        assert_eq!(rt; found, *wanted);
     }
     Ok(())
 }
 
-const INCHES: Result<(u64, i32), u64> = Ok((INCH, -1));
+const INCHES: Unit = Ok((INCH, -1));
 
-const FEET: Result<(u64, i32), u64> = Ok((FOOT, -1));
+const FEET: Unit = Ok((FOOT, -1));
 
-const NONE: Result<(u64, i32), u64> = Err(1);
+const NONE: Unit = Err(1);
 
 /// The value of a measure, the prefix of its metre, and what the unit that is converted to it is.
-const MEASURES: [(&str, &str, Result<(u64, i32), u64>); 33] = [
+static MEASURES: [(&str, &str, Unit); 33] = [
     ("IFCLENGTHMEASURE(25.4)", ".MILLI.", INCHES),
     ("25.4", ".MILLI.", INCHES),
     ("IFCRATIOMEASURE(25.4)", ".MILLI.", INCHES),
@@ -217,24 +210,33 @@ const MEASURES: [(&str, &str, Result<(u64, i32), u64>); 33] = [
     ("25.4", ".NANO.", NONE),
 ];
 
+/// The unit that is converted to a measure.
+fn converted(alloc: Global, value: &str, prefix: &str) -> Result<Unit, BuildError> {
+    let parts = [
+        b"#1=IFCPROJECT($,$,$,$,$,$,$,$,#2);#2=IFCUNITASSIGNMENT((#3));".as_slice(),
+        b"#3=IFCCONVERSIONBASEDUNIT($,.LENGTHUNIT.,'UNIT',#4);#4=IFCMEASUREWITHUNIT(".as_slice(),
+        value.as_bytes(),
+        b",#5);#5=IFCSIUNIT(*,.LENGTHUNIT.,".as_slice(),
+        prefix.as_bytes(),
+        b",.METRE.);".as_slice(),
+    ];
+    let exchange = exchange_in_parts(alloc, &parts)?;
+    let found = unit_of(&exchange);
+    drop(exchange);
+    Ok(found)
+}
+
 #[test]
 fn inches_and_feet_are_found(rt: HostRuntime) -> Result<(), Fail> {
-    let alloc = rt.alloc();
-    for (value, prefix, wanted) in MEASURES {
-        let text = format!(in alloc;
-            "#1=IFCPROJECT($,$,$,$,$,$,$,$,#2);#2=IFCUNITASSIGNMENT((#3));#3=IFCCONVERSIONBASEDUNIT($,.LENGTHUNIT.,'UNIT',#4);#4=IFCMEASUREWITHUNIT({value},#5);#5=IFCSIUNIT(*,.LENGTHUNIT.,{prefix},.METRE.);"
-        )?;
-        assert_eq!(rt;
-            unit_of(alloc, text.as_bytes())?,
-            wanted,
-            "at {value} {prefix}"
-        );
+    for (value, prefix, wanted) in MEASURES.iter() {
+        let found = converted(rt.alloc(), value, prefix)?;
+        assert_eq!(rt; found, *wanted, "at {value} {prefix}");
     }
     Ok(())
 }
 
 /// An instance, and the fault of its points in millimetres.
-const POINTS: [(&[u8], Option<GridFault>); 11] = [
+static POINTS: [(&[u8], Option<GridFault>); 11] = [
     (b"#1=IFCCARTESIANPOINT((1.,2.5,-3.1));", None),
     (
         b"#1=IFCCARTESIANPOINT((1.55,900000.,3.));",
@@ -263,61 +265,91 @@ const POINTS: [(&[u8], Option<GridFault>); 11] = [
     (b"#1=IFCDIRECTION((0.55,0.,0.));", None),
 ];
 
+fn assert_points_fault(rt: &impl Abort, exchange: &Exchange, wanted: Option<GridFault>) {
+    let scale = Scale {
+        factor: 1,
+        power: 0,
+    };
+    match exchange.iter().next() {
+        Some(instance) => assert_eq!(rt; fault_of_points(&instance, scale, Mode::Exact), wanted),
+        None => assert!(rt; false, "no instance"),
+    }
+}
+
 #[test]
 fn faults_of_points_are_found(rt: HostRuntime) -> Result<(), Fail> {
-    for (text, wanted) in POINTS {
-        let exchange = file(rt.alloc(), text)?;
-        let instance = exchange.iter().next().ok_or("no instance")?;
-        let scale = Scale {
-            factor: 1,
-            power: 0,
-        };
-        let told = fault_of_points(&instance, scale, Mode::Exact);
-        assert_eq!(rt; told, wanted);
+    for (text, wanted) in POINTS.iter() {
+        let exchange = exchange_of(rt.alloc(), text)?;
+        assert_points_fault(&rt, &exchange, *wanted);
+        drop(exchange);
     }
+    Ok(())
+}
+
+const METRES: Scale = Scale {
+    factor: 1,
+    power: 3,
+};
+
+/// The points of two rows.
+const ROWS: [Point; 2] = [
+    Point {
+        x: 0,
+        y: 10_000,
+        z: 20_000,
+    },
+    Point {
+        x: -30_000,
+        y: 40_000,
+        z: 50,
+    },
+];
+
+/// The points of a list, snapped; in exact mode it has none.
+fn assert_rows(rt: &impl Abort, alloc: Global, items: &Values<'_>) -> Result<(), AllocError> {
+    match points(alloc, items, METRES, Mode::Snap)? {
+        Ok(made) => {
+            assert_eq!(rt; made.as_slice(), ROWS.as_slice());
+            drop(made);
+        }
+        Err(_) => assert!(rt; false, "no points"),
+    }
+    match points(alloc, items, METRES, Mode::Exact)? {
+        Ok(made) => {
+            drop(made);
+            assert!(rt; false, "off the grid");
+        }
+        Err(error) => assert_eq!(rt; error, LengthError::Refused(GridFault::OffGrid)),
+    }
+    Ok(())
+}
+
+fn first_point(items: &Values<'_>) -> Option<Result<Point, LengthError>> {
+    let item = items.iter().next()?;
+    Some(point(&item, METRES, Mode::Exact))
+}
+
+/// The list of points, and what is behind it.
+fn assert_list(rt: &impl Abort, alloc: Global, exchange: &Exchange) -> Result<(), Fail> {
+    let instance = exchange.iter().next().ok_or("no instance")?;
+    let list = instance.attribute(0).ok_or("no list")?;
+    let absent = instance.attribute(1).ok_or("nothing behind it")?;
+    let items = list.items().ok_or("no items")?;
+    assert_rows(rt, alloc, &items)?;
+    assert_eq!(rt; first_point(&items), Some(Ok(ROWS[0])));
+    assert_eq!(rt; point(&list, METRES, Mode::Exact), Err(LengthError::Unread));
+    assert_eq!(rt;
+        length(&absent, METRES, Mode::Exact),
+        Err(LengthError::Unread)
+    );
     Ok(())
 }
 
 #[test]
 fn points_of_a_list_are_read(rt: HostRuntime) -> Result<(), Fail> {
-    let exchange = file(
-        rt.alloc(),
-        b"#1=IFCCARTESIANPOINTLIST3D(((0.,1.,2.),(-3.00004,4.,5.E-3)),$);",
-    )?;
-    let scale = Scale {
-        factor: 1,
-        power: 3,
-    };
-    let instance = exchange.iter().next().ok_or("no instance")?;
-    let list = instance.attribute(0).ok_or("no list")?;
-    let absent = instance.attribute(1).ok_or("nothing behind it")?;
-    let items = list.items().ok_or("no items")?;
-    let item = items.iter().next().ok_or("no item")?;
-    let wanted = [
-        Point {
-            x: 0,
-            y: 10_000,
-            z: 20_000,
-        },
-        Point {
-            x: -30_000,
-            y: 40_000,
-            z: 50,
-        },
-    ];
-    match points(rt.alloc(), &items, scale, Mode::Snap)? {
-        Ok(made) => assert_eq!(rt; made.as_slice(), wanted.as_slice()),
-        Err(_) => assert!(rt; false),
-    }
-    match points(rt.alloc(), &items, scale, Mode::Exact)? {
-        Ok(_) => assert!(rt; false),
-        Err(error) => assert_eq!(rt; error, LengthError::Refused(GridFault::OffGrid)),
-    }
-    assert_eq!(rt; point(&item, scale, Mode::Exact), Ok(wanted[0]));
-    assert_eq!(rt; point(&list, scale, Mode::Exact), Err(LengthError::Unread));
-    assert_eq!(rt;
-        length(&absent, scale, Mode::Exact),
-        Err(LengthError::Unread)
-    );
-    Ok(())
+    let data = b"#1=IFCCARTESIANPOINTLIST3D(((0.,1.,2.),(-3.00004,4.,5.E-3)),$);";
+    let exchange = exchange_of(rt.alloc(), data)?;
+    let looked = assert_list(&rt, rt.alloc(), &exchange);
+    drop(exchange);
+    looked
 }

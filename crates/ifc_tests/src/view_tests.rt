@@ -1,15 +1,15 @@
 //! Views of single instances.
+use crate::small_files::exchange_in_parts;
 use ifc_schema::{
     AxisView, ElementView, FaceView, FacesetView, MappedView, OperatorView, PlacementView,
     RepresentationView, axis_placement, element, faceset, mapped_item, operator, placement,
     polygon_face, representation,
 };
-use p21_reader::{Exchange, ValueRef, read};
-use std::alloc::{AllocError, Global};
+use p21_reader::{Exchange, ValueRef};
+use std::process::Abort;
 use std::test::Fail;
 
-const LINES: [&[u8]; 30] = [
-    b"ISO-10303-21;HEADER;FILE_SCHEMA(('IFC4'));ENDSEC;DATA;",
+static LINES: [&[u8]; 28] = [
     b"#101=IFCWALL('0000000000000000000001',$,'Wall',$,$,#110,#120,$);",
     b"#102=IFCWALL('0000000000000000000002',$,$,$,$,5,$,$);",
     b"#103=IFCWALL('0000000000000000000003',$,'Wall',$,$,5,#120,$);",
@@ -38,7 +38,6 @@ const LINES: [&[u8]; 30] = [
     b"#151=IFCREPRESENTATIONMAP(#111,#122);",
     b"#152=IFCMAPPEDITEM(#151,#99);",
     b"#153=IFCWALL('0123',$,'Wall',$,$,#110,#120,$);",
-    b"ENDSEC;END-ISO-10303-21;",
 ];
 
 #[derive(Clone, Copy)]
@@ -60,7 +59,7 @@ const NONE: [u64; 6] = [0, 0, 0, 0, 0, 0];
 const MISSING: u64 = 99;
 
 /// Calls of a number, and what their views tell: 1 and a number for each field, else zeros.
-const CASES: [(Call, u64, [u64; 6]); 30] = [
+static CASES: [(Call, u64, [u64; 6]); 30] = [
     (Call::Element, 101, [1, 22, 4, 110, 120, 0]),
     (Call::Element, 102, [1, 22, 0, 1, 0, 0]),
     (Call::Element, 103, NONE),
@@ -187,21 +186,17 @@ fn told(exchange: &Exchange, call: Call, id: u64) -> Option<[u64; 6]> {
     })
 }
 
-fn file(alloc: Global) -> Result<Vec<u8>, AllocError> {
-    let mut bytes = Vec::new(alloc);
-    for line in LINES.iter() {
-        bytes.extend_from_slice(line)?;
+fn assert_views(rt: &impl Abort, exchange: &Exchange) {
+    for (call, id, wanted) in CASES.iter() {
+        let found = told(exchange, *call, *id).unwrap_or(NONE);
+        assert_eq!(rt; found, *wanted, "at {id}");
     }
-    Ok(bytes)
 }
 
 #[test]
 fn single_instances_are_viewed(rt: HostRuntime) -> Result<(), Fail> {
-    let bytes = file(rt.alloc())?;
-    let exchange = read(rt.alloc(), bytes.as_slice()).ok().ok_or("refused")?;
-    for (call, id, wanted) in CASES {
-        let found = told(&exchange, call, id).unwrap_or(NONE);
-        assert_eq!(rt; found, wanted);
-    }
+    let exchange = exchange_in_parts(rt.alloc(), &LINES)?;
+    assert_views(&rt, &exchange);
+    drop(exchange);
     Ok(())
 }

@@ -2,18 +2,18 @@
 use p21_lexer::{LexFault, Lexer, TokenKind};
 use std::process::Abort;
 
-/// The tokens of a text, each with its first byte and the byte after its last, and the place of a fault.
-#[derive(Clone, Copy)]
-struct Row {
-    text: &'static [u8],
-    tokens: &'static [(TokenKind, usize, usize)],
-    fault: Option<u64>,
-}
+/// A text, its tokens, each with its first byte and the byte after its last, and the place of a fault.
+type Row = (
+    &'static [u8],
+    &'static [(TokenKind, usize, usize)],
+    Option<u64>,
+);
 
-const KINDS: [Row; 6] = [
-    Row {
-        text: b"#12=IFCWALL('a',$,*,.T.,-1.5E+3,\"0F\",#7);",
-        tokens: &[
+/// Tokens of each kind.
+static KINDS: [Row; 6] = [
+    (
+        b"#12=IFCWALL('a',$,*,.T.,-1.5E+3,\"0F\",#7);",
+        &[
             (TokenKind::Name, 0, 3),
             (TokenKind::Single, 3, 4),
             (TokenKind::Word, 4, 11),
@@ -34,25 +34,25 @@ const KINDS: [Row; 6] = [
             (TokenKind::Single, 39, 40),
             (TokenKind::Single, 40, 41),
         ],
-        fault: None,
-    },
-    Row {
-        text: b"#9223372036854775807 #9223372036854775808",
-        tokens: &[
+        None,
+    ),
+    (
+        b"#9223372036854775807 #9223372036854775808",
+        &[
             (TokenKind::Name, 0, 20),
             (TokenKind::Name, 21, 40),
             (TokenKind::Number, 40, 41),
         ],
-        fault: None,
-    },
-    Row {
-        text: b"#0009223372036854775807",
-        tokens: &[(TokenKind::Name, 0, 23)],
-        fault: None,
-    },
-    Row {
-        text: b"1.E5 1.5E 2e-1x +7 -",
-        tokens: &[
+        None,
+    ),
+    (
+        b"#0009223372036854775807",
+        &[(TokenKind::Name, 0, 23)],
+        None,
+    ),
+    (
+        b"1.E5 1.5E 2e-1x +7 -",
+        &[
             (TokenKind::Number, 0, 4),
             (TokenKind::Number, 5, 8),
             (TokenKind::Word, 8, 9),
@@ -60,90 +60,42 @@ const KINDS: [Row; 6] = [
             (TokenKind::Word, 14, 15),
             (TokenKind::Number, 16, 18),
         ],
-        fault: Some(19),
-    },
-    Row {
-        text: b"!A-1_b _ a#1",
-        tokens: &[
+        Some(19),
+    ),
+    (
+        b"!A-1_b _ a#1",
+        &[
             (TokenKind::Word, 0, 6),
             (TokenKind::Word, 7, 8),
             (TokenKind::Word, 9, 10),
             (TokenKind::Name, 10, 12),
         ],
-        fault: None,
-    },
-    Row {
-        text: b".A1_. \"aF\" .A-",
-        tokens: &[(TokenKind::Enumeration, 0, 5), (TokenKind::Bits, 6, 10)],
-        fault: Some(11),
-    },
+        None,
+    ),
+    (
+        b".A1_. \"aF\" .A-",
+        &[(TokenKind::Enumeration, 0, 5), (TokenKind::Bits, 6, 10)],
+        Some(11),
+    ),
 ];
 
-const GAPS_AND_TEXTS: [Row; 12] = [
-    Row {
-        text: b"",
-        tokens: &[],
-        fault: None,
-    },
-    Row {
-        text: b"\x09\x0a\x0b\x0c\x0d ",
-        tokens: &[],
-        fault: None,
-    },
-    Row {
-        text: b"\xef\xbb\xbf ;",
-        tokens: &[(TokenKind::Single, 4, 5)],
-        fault: None,
-    },
-    Row {
-        text: b";\xef\xbb\xbf",
-        tokens: &[(TokenKind::Single, 0, 1)],
-        fault: Some(1),
-    },
-    Row {
-        text: b" /* a */\t/**/ A",
-        tokens: &[(TokenKind::Word, 14, 15)],
-        fault: None,
-    },
-    Row {
-        text: b"/*/ */A",
-        tokens: &[(TokenKind::Word, 6, 7)],
-        fault: None,
-    },
-    Row {
-        text: b"A/* B",
-        tokens: &[(TokenKind::Word, 0, 1)],
-        fault: Some(1),
-    },
-    Row {
-        text: b"/* /* */ */",
-        tokens: &[(TokenKind::Single, 9, 10)],
-        fault: Some(10),
-    },
-    Row {
-        text: b"'a''b'''''",
-        tokens: &[(TokenKind::Words, 0, 10)],
-        fault: None,
-    },
-    Row {
-        text: b"'ab''cd",
-        tokens: &[(TokenKind::Words, 0, 4)],
-        fault: Some(4),
-    },
-    Row {
-        text: b"'''",
-        tokens: &[(TokenKind::Words, 0, 2)],
-        fault: Some(2),
-    },
-    Row {
-        text: b"1.",
-        tokens: &[(TokenKind::Number, 0, 2)],
-        fault: None,
-    },
+static GAPS_AND_TEXTS: [Row; 12] = [
+    (b"", &[], None),
+    (b"\x09\x0a\x0b\x0c\x0d ", &[], None),
+    (b"\xef\xbb\xbf ;", &[(TokenKind::Single, 4, 5)], None),
+    (b";\xef\xbb\xbf", &[(TokenKind::Single, 0, 1)], Some(1)),
+    (b" /* a */\t/**/ A", &[(TokenKind::Word, 14, 15)], None),
+    (b"/*/ */A", &[(TokenKind::Word, 6, 7)], None),
+    (b"A/* B", &[(TokenKind::Word, 0, 1)], Some(1)),
+    (b"/* /* */ */", &[(TokenKind::Single, 9, 10)], Some(10)),
+    (b"'a''b'''''", &[(TokenKind::Words, 0, 10)], None),
+    (b"'ab''cd", &[(TokenKind::Words, 0, 4)], Some(4)),
+    (b"'''", &[(TokenKind::Words, 0, 2)], Some(2)),
+    (b"1.", &[(TokenKind::Number, 0, 2)], None),
 ];
 
 /// No token begins at the first byte of these.
-const FAULTS: [&[u8]; 14] = [
+static FAULTS: [&[u8]; 14] = [
     b"\x08",
     b"\x0e",
     b"#",
@@ -160,43 +112,49 @@ const FAULTS: [&[u8]; 14] = [
     b"/*/",
 ];
 
-fn assert_row(rt: &impl Abort, row: &Row) {
-    let mut lexer = Lexer::new(row.text);
-    for (kind, start, end) in row.tokens {
-        match lexer.next() {
-            Ok(Some(token)) => {
-                assert_eq!(rt; token.kind, *kind);
-                assert_eq!(rt; token.start, *start);
-                assert_eq!(rt; token.end, *end);
-            }
-            _ => assert!(rt; false, "a token is missing at {start}"),
+/// The next token is this one.
+fn assert_token(rt: &impl Abort, lexer: &mut Lexer<'_>, kind: TokenKind, start: usize, end: usize) {
+    match lexer.next() {
+        Ok(Some(token)) => {
+            assert_eq!(rt; token.kind, kind);
+            assert_eq!(rt; (token.start, token.end), (start, end));
         }
+        _ => assert!(rt; false, "a token is missing at {start}"),
     }
-    for _ in 0..2 {
-        match (lexer.next(), row.fault) {
-            (Ok(None), None) => {}
-            (Err(LexFault::BadToken { at }), Some(place)) => assert_eq!(rt; at, place),
-            _ => assert!(rt; false, "the end is another one"),
-        }
+}
+
+/// No token is left: the text ends, or has its fault there.
+fn assert_end(rt: &impl Abort, lexer: &mut Lexer<'_>, fault: Option<u64>) {
+    match (lexer.next(), fault) {
+        (Ok(None), None) => {}
+        (Err(LexFault::BadToken { at }), Some(place)) => assert_eq!(rt; at, place),
+        _ => assert!(rt; false, "the end is another one"),
     }
+}
+
+fn assert_row(
+    rt: &impl Abort,
+    text: &[u8],
+    tokens: &[(TokenKind, usize, usize)],
+    fault: Option<u64>,
+) {
+    let mut lexer = Lexer::new(text);
+    for (kind, start, end) in tokens {
+        assert_token(rt, &mut lexer, *kind, *start, *end);
+    }
+    assert_end(rt, &mut lexer, fault);
+    assert_end(rt, &mut lexer, fault);
 }
 
 #[test]
 fn tokens_are_cut(rt: HostRuntime) {
-    for row in &KINDS {
-        assert_row(&rt, row);
+    for (text, tokens, fault) in KINDS.iter() {
+        assert_row(&rt, text, tokens, *fault);
     }
-    for row in &GAPS_AND_TEXTS {
-        assert_row(&rt, row);
+    for (text, tokens, fault) in GAPS_AND_TEXTS.iter() {
+        assert_row(&rt, text, tokens, *fault);
     }
-    for text in FAULTS {
-        assert_row(
-            &rt,
-            &Row {
-                text,
-                tokens: &[],
-                fault: Some(0),
-            },
-        );
+    for text in FAULTS.iter() {
+        assert_row(&rt, text, &[], Some(0));
     }
 }

@@ -1,335 +1,212 @@
 //! Spellings, texts, sizes and orders.
-use bim_model::Text;
 use bim_text::{Decimal, print_i64, says, says_guid, small_whole, text_of};
+use std::alloc::{AllocError, Global};
 use std::cmp::Ordering;
+use std::process::Abort;
 use std::test::Fail;
 
-/// A spelling, and what it is read as: whether it is negative, its digits and its exponent.
-#[derive(Clone, Copy)]
-struct Spelling {
-    text: &'static [u8],
-    decimal: Option<(bool, u128, i32)>,
-}
-
-const SPELLINGS: [Spelling; 20] = [
-    Spelling {
-        text: b"1.5E3",
-        decimal: Some((false, 15, 2)),
-    },
-    Spelling {
-        text: b"-0.00",
-        decimal: Some((false, 0, 0)),
-    },
-    Spelling {
-        text: b"9999999999999999999999999999999999",
-        decimal: Some((false, 9999999999999999999999999999999999, 0)),
-    },
-    Spelling {
-        text: b"99999999999999999999999999999999999",
-        decimal: None,
-    },
-    Spelling {
-        text: b"1E401",
-        decimal: None,
-    },
-    Spelling {
-        text: b"1E400",
-        decimal: Some((false, 1, 400)),
-    },
-    Spelling {
-        text: b"-1.e-0400",
-        decimal: Some((true, 1, -400)),
-    },
-    Spelling {
-        text: b"1E-401",
-        decimal: None,
-    },
-    Spelling {
-        text: b".5",
-        decimal: None,
-    },
-    Spelling {
-        text: b"",
-        decimal: None,
-    },
-    Spelling {
-        text: b"+",
-        decimal: None,
-    },
-    Spelling {
-        text: b"1 ",
-        decimal: None,
-    },
-    Spelling {
-        text: b"1E",
-        decimal: None,
-    },
-    Spelling {
-        text: b"1E+",
-        decimal: None,
-    },
-    Spelling {
-        text: b"0E401",
-        decimal: None,
-    },
-    Spelling {
-        text: b"1E18446744073709551617",
-        decimal: None,
-    },
-    Spelling {
-        text: b"000000000000000000000000000000000000000070000000000000000000000000000000000000000.000",
-        decimal: Some((false, 7, 40)),
-    },
-    Spelling {
-        text: b"10000000000000000000000000000000001",
-        decimal: None,
-    },
-    Spelling {
-        text: b"1000000000000000000000000000000001.0E1",
-        decimal: Some((false, 1000000000000000000000000000000001, 1)),
-    },
-    Spelling {
-        text: b"0.00000000000000000000000000000000000000005",
-        decimal: Some((false, 5, -41)),
-    },
+/// Spellings, and what each is read as: whether it is negative, its digits and its exponent.
+static SPELLINGS: [(&str, Option<(bool, u128, i32)>); 20] = [
+    ("1.5E3", Some((false, 15, 2))),
+    ("-0.00", Some((false, 0, 0))),
+    (
+        "9999999999999999999999999999999999",
+        Some((false, 9999999999999999999999999999999999, 0)),
+    ),
+    ("99999999999999999999999999999999999", None),
+    ("1E401", None),
+    ("1E400", Some((false, 1, 400))),
+    ("-1.e-0400", Some((true, 1, -400))),
+    ("1E-401", None),
+    (".5", None),
+    ("", None),
+    ("+", None),
+    ("1 ", None),
+    ("1E", None),
+    ("1E+", None),
+    ("0E401", None),
+    ("1E18446744073709551617", None),
+    (
+        "000000000000000000000000000000000000000070000000000000000000000000000000000000000.000",
+        Some((false, 7, 40)),
+    ),
+    ("10000000000000000000000000000000001", None),
+    (
+        "1000000000000000000000000000000001.0E1",
+        Some((false, 1000000000000000000000000000000001, 1)),
+    ),
+    (
+        "0.00000000000000000000000000000000000000005",
+        Some((false, 5, -41)),
+    ),
 ];
 
-/// The bytes between the apostrophes, and the text that they spell.
-#[derive(Clone, Copy)]
-struct Words {
-    spelled: &'static [u8],
-    text: &'static str,
+/// What a spelling is read as.
+fn parts(spelled: &str) -> Option<(bool, u128, i32)> {
+    let decimal = Decimal::read(spelled.as_bytes())?;
+    Some((decimal.negative, decimal.digits, decimal.exp))
 }
-
-const WORDS: [Words; 20] = [
-    Words {
-        spelled: b"a\\\\b\\X\\41\\S\\i''\\X2\\00E9\\X0\\",
-        text: "a\\bA\u{E9}'\u{E9}",
-    },
-    Words {
-        spelled: b"Pipe 1",
-        text: "Pipe 1",
-    },
-    Words {
-        spelled: b"",
-        text: "",
-    },
-    Words {
-        spelled: b"Decke \\X2\\00FC\\X0\\ber EG",
-        text: "Decke \u{FC}ber EG",
-    },
-    Words {
-        spelled: b"\\X2\\D83DDE00\\X0\\",
-        text: "\u{FFFD}\u{FFFD}",
-    },
-    Words {
-        spelled: b"\\X4\\0001F600\\X0\\",
-        text: "\u{1F600}",
-    },
-    Words {
-        spelled: b"\\X4\\00110000\\X0\\",
-        text: "\u{FFFD}",
-    },
-    Words {
-        spelled: b"\\X\\00",
-        text: "\u{0}",
-    },
-    Words {
-        spelled: b"\\S\\''",
-        text: "\u{A7}",
-    },
-    Words {
-        spelled: b"\\S\\\\",
-        text: "\u{DC}",
-    },
-    Words {
-        spelled: b"\\S\\\x7F",
-        text: "\\S\\\u{7F}",
-    },
-    Words {
-        spelled: b"'\x0A'",
-        text: "''",
-    },
-    Words {
-        spelled: b"'''",
-        text: "''",
-    },
-    Words {
-        spelled: b"\xC3\x0A\xA9",
-        text: "\u{E9}",
-    },
-    Words {
-        spelled: b"\xE9 \xC3\xA9 \xF0\x9F\x98\x80 \xED\xA0\x80",
-        text: "\u{E9} \u{E9} \u{1F600} \u{ED}\u{A0}\u{80}",
-    },
-    Words {
-        spelled: b"\\PA\\x\\PJ\\",
-        text: "x\\PJ\\",
-    },
-    Words {
-        spelled: b"\\X2\\00e\\X0\\",
-        text: "\\X2\\00e\\X0\\",
-    },
-    Words {
-        spelled: b"\\X2\\\\X0\\",
-        text: "\\X2\\X0\\",
-    },
-    Words {
-        spelled: b"\x7F\x80",
-        text: "\u{7F}\u{80}",
-    },
-    Words {
-        spelled: b"a\\",
-        text: "a\\",
-    },
-];
 
 #[test]
-fn decimals_and_texts_are_read(rt: HostRuntime) -> Result<(), Fail> {
-    for row in SPELLINGS {
-        let decimal = Decimal::read(row.text).map(|d| (d.negative, d.digits, d.exp));
-        assert_eq!(rt; decimal, row.decimal, "{:?}", row.text);
+fn decimals_are_read(rt: HostRuntime) {
+    for (spelled, wanted) in SPELLINGS.iter() {
+        assert_eq!(rt; parts(spelled), *wanted, "at {spelled}");
     }
-    for row in WORDS {
-        let text = text_of(rt.alloc(), row.spelled)?;
-        let wanted = Text::of(rt.alloc(), row.text)?;
-        assert_eq!(rt; text.as_str(), wanted.as_str());
-        assert_eq!(rt; says(row.spelled, row.text), true);
-        assert_eq!(rt; says(row.spelled, "Pipe"), false);
+}
+
+/// Bytes between the apostrophes, and the text that they spell.
+static WORDS: [(&[u8], &str); 20] = [
+    (
+        b"a\\\\b\\X\\41\\S\\i''\\X2\\00E9\\X0\\",
+        "a\\bA\u{E9}'\u{E9}",
+    ),
+    (b"Pipe 1", "Pipe 1"),
+    (b"", ""),
+    (b"Decke \\X2\\00FC\\X0\\ber EG", "Decke \u{FC}ber EG"),
+    (b"\\X2\\D83DDE00\\X0\\", "\u{FFFD}\u{FFFD}"),
+    (b"\\X4\\0001F600\\X0\\", "\u{1F600}"),
+    (b"\\X4\\00110000\\X0\\", "\u{FFFD}"),
+    (b"\\X\\00", "\u{0}"),
+    (b"\\S\\''", "\u{A7}"),
+    (b"\\S\\\\", "\u{DC}"),
+    (b"\\S\\\x7F", "\\S\\\u{7F}"),
+    (b"'\x0A'", "''"),
+    (b"'''", "''"),
+    (b"\xC3\x0A\xA9", "\u{E9}"),
+    (
+        b"\xE9 \xC3\xA9 \xF0\x9F\x98\x80 \xED\xA0\x80",
+        "\u{E9} \u{E9} \u{1F600} \u{ED}\u{A0}\u{80}",
+    ),
+    (b"\\PA\\x\\PJ\\", "x\\PJ\\"),
+    (b"\\X2\\00e\\X0\\", "\\X2\\00e\\X0\\"),
+    (b"\\X2\\\\X0\\", "\\X2\\X0\\"),
+    (b"\x7F\x80", "\u{7F}\u{80}"),
+    (b"a\\", "a\\"),
+];
+
+fn assert_text(
+    rt: &impl Abort,
+    alloc: Global,
+    spelled: &[u8],
+    wanted: &str,
+) -> Result<(), AllocError> {
+    let text = text_of(alloc, spelled)?;
+    assert_eq!(rt; text.as_str(), wanted);
+    drop(text);
+    Ok(())
+}
+
+#[test]
+fn texts_are_read(rt: HostRuntime) -> Result<(), Fail> {
+    for (spelled, wanted) in WORDS.iter() {
+        assert_text(&rt, rt.alloc(), spelled, wanted)?;
+        assert!(rt; says(spelled, wanted));
+        assert!(rt; !says(spelled, "Pipe"));
     }
     Ok(())
 }
 
-/// Two spellings, a power of ten for the first, and the order of their sizes.
-#[derive(Clone, Copy)]
-struct Sizes {
-    one: &'static [u8],
-    shift: i32,
-    other: &'static [u8],
-    order: Ordering,
-}
-
-const SIZES: [Sizes; 9] = [
-    Sizes {
-        one: b"1",
-        shift: 0,
-        other: b"-1.0",
-        order: Ordering::Equal,
-    },
-    Sizes {
-        one: b"-0.00001",
-        shift: 6,
-        other: b"10",
-        order: Ordering::Equal,
-    },
-    Sizes {
-        one: b"0.000001",
-        shift: 6,
-        other: b"1.0000000001",
-        order: Ordering::Less,
-    },
-    Sizes {
-        one: b"12e-300",
-        shift: 6,
-        other: b"-11.999999999999999e-294",
-        order: Ordering::Greater,
-    },
-    Sizes {
-        one: b"1e400",
-        shift: 10,
-        other: b"9999999999999999999999999999999999e-400",
-        order: Ordering::Greater,
-    },
-    Sizes {
-        one: b"9999999999999999999999999999999999e-400",
-        shift: -10,
-        other: b"1e400",
-        order: Ordering::Less,
-    },
-    Sizes {
-        one: b"0",
-        shift: 10,
-        other: b"1e-400",
-        order: Ordering::Less,
-    },
-    Sizes {
-        one: b"1e-400",
-        shift: -10,
-        other: b"0.0",
-        order: Ordering::Greater,
-    },
-    Sizes {
-        one: b"0",
-        shift: 1,
-        other: b"-0",
-        order: Ordering::Equal,
-    },
+/// Two spellings with a power of ten for the first between them, and the order of their sizes.
+static SIZES: [(&str, i32, &str, Ordering); 9] = [
+    ("1", 0, "-1.0", Ordering::Equal),
+    ("-0.00001", 6, "10", Ordering::Equal),
+    ("0.000001", 6, "1.0000000001", Ordering::Less),
+    ("12e-300", 6, "-11.999999999999999e-294", Ordering::Greater),
+    (
+        "1e400",
+        10,
+        "9999999999999999999999999999999999e-400",
+        Ordering::Greater,
+    ),
+    (
+        "9999999999999999999999999999999999e-400",
+        -10,
+        "1e400",
+        Ordering::Less,
+    ),
+    ("0", 10, "1e-400", Ordering::Less),
+    ("1e-400", -10, "0.0", Ordering::Greater),
+    ("0", 1, "-0", Ordering::Equal),
 ];
 
-#[test]
-fn sizes_and_numbers_are_read(rt: HostRuntime) -> Result<(), Fail> {
-    for row in SIZES {
-        let one = Decimal::read(row.one).ok_or("no number")?;
-        let other = Decimal::read(row.other).ok_or("no number")?;
-        if row.shift >= -10 && row.shift <= 10 {
-            assert_eq!(rt;
-                one.compare_size(&other, row.shift),
-                row.order,
-                "{:?}",
-                row.one
-            );
-        }
+/// The order of the sizes of two spellings, the first times a power of ten; none where one is no number or the power is far.
+fn order(one: &str, shift: i32, other: &str) -> Option<Ordering> {
+    if shift < -10 || shift > 10 {
+        return None;
     }
-    let mut out = Vec::new(rt.alloc());
-    for number in [0, -1, 10, i64::MAX, i64::MIN] {
-        print_i64(number, &mut out)?;
+    let one = Decimal::read(one.as_bytes())?;
+    let other = Decimal::read(other.as_bytes())?;
+    Some(one.compare_size(&other, shift))
+}
+
+#[test]
+fn sizes_are_compared(rt: HostRuntime) {
+    for (one, shift, other, wanted) in SIZES.iter() {
+        assert_eq!(rt; order(one, *shift, other), Some(*wanted), "at {one}");
+    }
+}
+
+static NUMBERS: [i64; 5] = [0, -1, 10, i64::MAX, i64::MIN];
+
+/// The numbers, each with a blank behind it.
+fn printed(alloc: Global) -> Result<Vec<u8>, AllocError> {
+    let mut out = Vec::new(alloc);
+    for number in NUMBERS.iter() {
+        print_i64(*number, &mut out)?;
         out.push(b' ')?;
     }
+    Ok(out)
+}
+
+#[test]
+fn numbers_are_printed(rt: HostRuntime) -> Result<(), Fail> {
+    let out = printed(rt.alloc())?;
     assert_eq!(rt;
         out.as_slice(),
         b"0 -1 10 9223372036854775807 -9223372036854775808 ".as_slice()
     );
+    drop(out);
     Ok(())
 }
 
 /// What is spelled, and whether it is a globally unique identifier.
-const GUIDS: [(&[u8], bool); 6] = [
-    (b"0000000000000000000001", true),
-    (b"_$\\X\\30\\PA\\0000000000000000001", true),
-    (b"\\X2\\00300031\\X0\\00000000000000000001", true),
-    (b"000000000000000000001", false),
-    (b"\\X\\2D000000000000000000001", false),
-    (b"\\X2\\003000310032\\X0\\00000000000000000001", false),
+static GUIDS: [(&str, bool); 6] = [
+    ("0000000000000000000001", true),
+    ("_$\\X\\30\\PA\\0000000000000000001", true),
+    ("\\X2\\00300031\\X0\\00000000000000000001", true),
+    ("000000000000000000001", false),
+    ("\\X\\2D000000000000000000001", false),
+    ("\\X2\\003000310032\\X0\\00000000000000000001", false),
 ];
 
 #[test]
-fn identifiers_are_read(rt: HostRuntime) -> Result<(), Fail> {
-    for (spelled, is) in GUIDS {
-        assert_eq!(rt; says_guid(spelled), is);
+fn identifiers_are_read(rt: HostRuntime) {
+    for (spelled, wanted) in GUIDS.iter() {
+        assert_eq!(rt; says_guid(spelled.as_bytes()), *wanted, "at {spelled}");
     }
-    Ok(())
 }
 
+/// Spellings, and the small whole number that each is.
+static SMALL_NUMBERS: [(&str, Option<u64>); 14] = [
+    ("0", Some(0)),
+    ("12", Some(12)),
+    ("12.", Some(12)),
+    ("0007", Some(7)),
+    ("999999999999999", Some(999_999_999_999_999)),
+    ("1000000000000000", None),
+    ("0000000000000000000000000000000001", Some(1)),
+    ("00000000000000000000000000000000001", None),
+    ("", None),
+    (".", None),
+    ("12.0", None),
+    ("12E", None),
+    ("+12", None),
+    ("-12", None),
+];
+
 #[test]
-fn small_whole_numbers_are_read(rt: HostRuntime) -> Result<(), Fail> {
-    let cases: [(&[u8], Option<u64>); 14] = [
-        (b"0", Some(0)),
-        (b"12", Some(12)),
-        (b"12.", Some(12)),
-        (b"0007", Some(7)),
-        (b"999999999999999", Some(999_999_999_999_999)),
-        (b"1000000000000000", None),
-        (b"0000000000000000000000000000000001", Some(1)),
-        (b"00000000000000000000000000000000001", None),
-        (b"", None),
-        (b".", None),
-        (b"12.0", None),
-        (b"12E", None),
-        (b"+12", None),
-        (b"-12", None),
-    ];
-    for (text, wanted) in cases {
-        assert_eq!(rt; small_whole(text), wanted);
+fn small_whole_numbers_are_read(rt: HostRuntime) {
+    for (spelled, wanted) in SMALL_NUMBERS.iter() {
+        assert_eq!(rt; small_whole(spelled.as_bytes()), *wanted, "at {spelled}");
     }
-    Ok(())
 }

@@ -2,47 +2,60 @@
 ghost use Rattle.std.specs.Prelude.{◌≤◌, All, IfOk, unsigned_abs};
 ghost use Rattle.bim_model.specs.Points.{grid_limit, IsGridPoint};
 
-use bim_model::{GRID_LIMIT, Point, Triangle};
+use crate::sample_files::exchange_of;
+use bim_model::{BuildError, GRID_LIMIT, Point, Triangle};
 use faceset::{Learnt, has_bad_index, place_of, set_triangles, triangle_count};
-use p21_reader::{Exchange, InstanceRef, read};
+use p21_reader::{Exchange, InstanceRef};
 use std::alloc::{AllocError, Global};
+use std::process::Abort;
 use std::test::Fail;
 
-fn set_in(exchange: &Exchange) -> Result<InstanceRef<'_>, Fail> {
-    Ok(exchange.look(2).ok_or("no set")?)
+/// The first instance, a list of three points, and the name of the second, a set over it.
+const POINTS: &str = "#1=IFCCARTESIANPOINTLIST3D(((0.,0.,0.),(1.,0.,0.),(0.,1.,0.)));#2=";
+
+/// Which of so many points the set's first attribute names, where it is there.
+fn first_place(exchange: &Exchange, count: u8) -> Option<Option<usize>> {
+    let value = exchange.look(2)?.attribute(0)?;
+    Some(place_of(&value, count as usize))
 }
 
 /// Which of so many points an index that is spelled so names.
-fn place_spelled(alloc: Global, spelled: &str, count: u8) -> Result<Option<usize>, Fail> {
-    let set = format!(in alloc; "IFCTRIANGULATEDFACESET({spelled})")?;
-    let exchange = exchange_of(alloc, set.as_str(), "")?;
-    let value = set_in(&exchange)?.attribute(0).ok_or("no value")?;
-    Ok(place_of(&value, count as usize))
+fn place_spelled(
+    alloc: Global,
+    spelled: &str,
+    count: u8,
+) -> Result<Option<Option<usize>>, BuildError> {
+    let parts = [POINTS, "IFCTRIANGULATEDFACESET(", spelled, ");"];
+    let exchange = exchange_of(alloc, &parts)?;
+    let found = first_place(&exchange, count);
+    drop(exchange);
+    Ok(found)
 }
+
+/// An index as it is spelled, how many points there are, and the place of the one that it names.
+static INDEXES: [(&str, u8, Option<usize>); 15] = [
+    ("$", 3, None),
+    ("1", 3, Some(0)),
+    ("3", 3, Some(2)),
+    ("+2.", 3, Some(1)),
+    ("30E-1", 3, Some(2)),
+    ("1E1", 10, Some(9)),
+    ("0", 3, None),
+    ("-1", 3, None),
+    ("4", 3, None),
+    ("1E1", 9, None),
+    ("2.5", 3, None),
+    ("1", 0, None),
+    ("10000000000000000001", 3, None),
+    ("1E19", 3, None),
+    (".X.", 3, None),
+];
 
 #[test]
 fn indexes_name_points(rt: HostRuntime) -> Result<(), Fail> {
-    let alloc = rt.alloc();
-    let cases = [
-        ("$", 3, None),
-        ("1", 3, Some(0)),
-        ("3", 3, Some(2)),
-        ("+2.", 3, Some(1)),
-        ("30E-1", 3, Some(2)),
-        ("1E1", 10, Some(9)),
-        ("0", 3, None),
-        ("-1", 3, None),
-        ("4", 3, None),
-        ("1E1", 9, None),
-        ("2.5", 3, None),
-        ("1", 0, None),
-        ("10000000000000000001", 3, None),
-        ("1E19", 3, None),
-        (".X.", 3, None),
-    ];
-    for (spelled, count, wanted) in cases {
-        let found = place_spelled(alloc, spelled, count)?;
-        assert_eq!(rt; found, wanted, "at {spelled}");
+    for (spelled, count, wanted) in INDEXES.iter() {
+        let found = place_spelled(rt.alloc(), spelled, *count)?;
+        assert_eq!(rt; found, Some(*wanted), "at {spelled}");
     }
     Ok(())
 }
@@ -80,18 +93,41 @@ fn points_at(alloc: Global, corners: &[[i32; 3]]) -> Result<Vec<Point>, AllocErr
     Ok(made)
 }
 
-/// The triangles of a triangulated set of these rows, by these numbers of its points.
+/// The triangles of the set over these points.
+fn triangles_in(
+    alloc: Global,
+    exchange: &Exchange,
+    points: &[Point],
+) -> Result<Option<Vec<Triangle>>, AllocError>
+    requires { All IsGridPoint points.now }
+{
+    match exchange.look(2) {
+        Some(set) => set_triangles(alloc, exchange, points, &set),
+        None => Ok(None),
+    }
+}
+
+/// The triangles of a set that is spelled so, over points at these corners.
 fn triangles_of(
     alloc: Global,
-    rows: &str,
-    numbers: &str,
+    set: &[&str],
     corners: &[[i32; 3]],
-) -> Result<Option<Vec<Triangle>>, Fail> {
+) -> Result<Option<Vec<Triangle>>, BuildError> {
+    let exchange = exchange_of(alloc, set)?;
+    let made = triangles_at(alloc, &exchange, corners);
+    drop(exchange);
+    Ok(made?)
+}
+
+fn triangles_at(
+    alloc: Global,
+    exchange: &Exchange,
+    corners: &[[i32; 3]],
+) -> Result<Option<Vec<Triangle>>, AllocError> {
     let points = points_at(alloc, corners)?;
-    let set = format!(in alloc; "IFCTRIANGULATEDFACESET(#1,$,$,({rows}),{numbers})")?;
-    let exchange = exchange_of(alloc, set.as_str(), "")?;
-    let set = set_in(&exchange)?;
-    Ok(set_triangles(alloc, &exchange, &points, &set)?)
+    let made = triangles_in(alloc, exchange, &points);
+    drop(points);
+    made
 }
 
 /// Points along a line: the coordinate is the place.
@@ -109,33 +145,66 @@ static LINE: [[i32; 3]; 9] = [
 
 static SHORT_LINE: [[i32; 3]; 4] = [[0, 0, 0], [1, 0, 0], [2, 0, 0], [3, 0, 0]];
 
-/// The place of the point that all three corners of the one triangle are.
-fn place_in(triangles: Option<Vec<Triangle>>) -> Option<i32> {
-    let made = triangles?;
-    match made.as_slice() {
-        [one] if one.a == one.b && one.b == one.c => Some(one.a.x),
-        _ => None,
+/// The place of the point that all three corners of the one triangle are; -1 of others.
+fn place_in(triangles: &[Triangle]) -> i32 {
+    match triangles {
+        [one] if one.a == one.b && one.b == one.c => one.a.x,
+        _ => -1,
     }
 }
 
+/// The place of the point that all three corners of a set's one triangle are, by these numbers of the points; none where it has no
+/// triangles.
+fn place_by(
+    alloc: Global,
+    spelled: &str,
+    numbers: &str,
+    line: &[[i32; 3]],
+) -> Result<Option<i32>, BuildError> {
+    let parts = [
+        POINTS,
+        "IFCTRIANGULATEDFACESET(#1,$,$,((",
+        spelled,
+        ",",
+        spelled,
+        ",",
+        spelled,
+        ")),",
+        numbers,
+        ");",
+    ];
+    match triangles_of(alloc, &parts, line)? {
+        Some(made) => {
+            let place = place_in(made.as_slice());
+            drop(made);
+            Ok(Some(place))
+        }
+        None => Ok(None),
+    }
+}
+
+/// An index as it is spelled, whether there are nine points, else four, and the place of the point by the numbers 4, 2 and 9.
+static NUMBERED: [(&str, bool, Option<i32>); 6] = [
+    ("1", false, Some(3)),
+    ("2", false, Some(1)),
+    ("3", false, None),
+    ("3", true, Some(8)),
+    ("4", true, None),
+    ("0", true, None),
+];
+
 #[test]
 fn numbers_of_points_are_followed(rt: HostRuntime) -> Result<(), Fail> {
-    let alloc = rt.alloc();
-    let cases: [(&str, &[[i32; 3]], Option<i32>); 6] = [
-        ("1", &SHORT_LINE, Some(3)),
-        ("2", &SHORT_LINE, Some(1)),
-        ("3", &SHORT_LINE, None),
-        ("3", &LINE, Some(8)),
-        ("4", &LINE, None),
-        ("0", &LINE, None),
-    ];
-    for (spelled, line, wanted) in cases {
-        let row = format!(in alloc; "({spelled},{spelled},{spelled})")?;
-        let made = triangles_of(alloc, row.as_str(), "(4,2,9)", line)?;
-        assert_eq!(rt; made.is_some(), wanted.is_some(), "at {spelled}");
-        assert_eq!(rt; place_in(made), wanted, "at {spelled}");
-        let made = triangles_of(alloc, row.as_str(), "()", line)?;
-        assert!(rt; made.is_none(), "at {spelled}");
+    for (spelled, nine, wanted) in NUMBERED.iter() {
+        let line = if *nine {
+            LINE.as_slice()
+        } else {
+            SHORT_LINE.as_slice()
+        };
+        let place = place_by(rt.alloc(), spelled, "(4,2,9)", line)?;
+        assert_eq!(rt; place, *wanted, "at {spelled}");
+        let place = place_by(rt.alloc(), spelled, "()", line)?;
+        assert!(rt; place.is_none(), "at {spelled}");
     }
     Ok(())
 }
@@ -150,122 +219,121 @@ fn triangle(a: [i32; 3], b: [i32; 3], c: [i32; 3]) -> Triangle {
     }
 }
 
+/// The triangles of a triangulated set of these rows, by these numbers of its points.
+fn assert_triangles(
+    rt: &impl Abort,
+    alloc: Global,
+    rows: &str,
+    numbers: &str,
+    wanted: Option<&[Triangle]>,
+) -> Result<(), BuildError> {
+    let parts = [
+        POINTS,
+        "IFCTRIANGULATEDFACESET(#1,$,$,(",
+        rows,
+        "),",
+        numbers,
+        ");",
+    ];
+    match triangles_of(alloc, &parts, &CORNERS)? {
+        Some(made) => {
+            assert_eq!(rt; Some(made.as_slice()), wanted);
+            drop(made);
+        }
+        None => assert!(rt; wanted.is_none()),
+    }
+    Ok(())
+}
+
 #[test]
 fn sets_become_triangles(rt: HostRuntime) -> Result<(), Fail> {
-    let alloc = rt.alloc();
     let turned = triangle([0, 100, 0], [0, 0, 0], [100, 0, 0]);
     let flat = triangle([100, 0, 0], [100, 0, 0], [0, 0, 0]);
     let back = triangle([0, 0, 0], [0, 100, 0], [100, 0, 0]);
-    let Some(made) = triangles_of(alloc, "(3,1,2),(2,2,1)", "$", &CORNERS)? else {
-        return Err("no triangles")?;
-    };
-    assert_eq!(rt; made.as_slice(), [turned, flat].as_slice());
-    let Some(made) = triangles_of(alloc, "(3,1,2)", "(3,2,1)", &CORNERS)? else {
-        return Err("no triangles")?;
-    };
-    assert_eq!(rt; made.as_slice(), [back].as_slice());
-    let none = triangles_of(alloc, "(3,1,2),(2,2,1),(2,3,4)", "$", &CORNERS)?;
-    assert!(rt; none.is_none());
+    let alloc = rt.alloc();
+    assert_triangles(&rt, alloc, "(3,1,2),(2,2,1)", "$", Some(&[turned, flat]))?;
+    assert_triangles(&rt, alloc, "(3,1,2)", "(3,2,1)", Some(&[back]))?;
+    assert_triangles(&rt, alloc, "(3,1,2),(2,2,1),(2,3,4)", "$", None)?;
     Ok(())
 }
 
 /// A set over three points, which faces stand beside; whether an index is bad, and how many triangles there are.
-#[derive(Clone, Copy)]
-struct Case {
-    set: &'static str,
-    faces: &'static str,
-    bad: bool,
-    count: u64,
-}
-
-const CASES: [Case; 13] = [
-    Case {
-        set: "IFCTRIANGULATEDFACESET(#1,$,$,((1,2,3),(3,2,1)),$)",
-        faces: "",
-        bad: false,
-        count: 2,
-    },
-    Case {
-        set: "IFCTRIANGULATEDFACESET(#1,$,$,((1,2,3),(3,2,0)))",
-        faces: "",
-        bad: true,
-        count: 2,
-    },
-    Case {
-        set: "IFCTRIANGULATEDFACESET(#1,$,$,((4,2,3),(3,2,1)),$)",
-        faces: "",
-        bad: true,
-        count: 2,
-    },
-    Case {
-        set: "IFCTRIANGULATEDFACESET(#1,$,$,((1,2,3)),(3,2,1))",
-        faces: "",
-        bad: false,
-        count: 1,
-    },
-    Case {
-        set: "IFCTRIANGULATEDFACESET(#1,$,$,((1,2,3)),(3,2,4))",
-        faces: "",
-        bad: true,
-        count: 1,
-    },
-    Case {
-        set: "IFCTRIANGULATEDFACESET(#1,$,$,((1,2,1)),(3,2,4))",
-        faces: "",
-        bad: true,
-        count: 1,
-    },
-    Case {
-        set: "IFCTRIANGULATEDFACESET(#1,$,$,((1,2,3)),(3,2))",
-        faces: "",
-        bad: true,
-        count: 1,
-    },
-    Case {
-        set: "IFCTRIANGULATEDFACESET(#1,$,$,((1,2,4)),(3,2,1,1))",
-        faces: "",
-        bad: false,
-        count: 1,
-    },
-    Case {
-        set: "IFCTRIANGULATEDFACESET(#1,$,$,((1,2,3)),())",
-        faces: "",
-        bad: true,
-        count: 1,
-    },
+static CASES: [(&str, &str, bool, u64); 13] = [
+    (
+        "IFCTRIANGULATEDFACESET(#1,$,$,((1,2,3),(3,2,1)),$)",
+        "",
+        false,
+        2,
+    ),
+    (
+        "IFCTRIANGULATEDFACESET(#1,$,$,((1,2,3),(3,2,0)))",
+        "",
+        true,
+        2,
+    ),
+    (
+        "IFCTRIANGULATEDFACESET(#1,$,$,((4,2,3),(3,2,1)),$)",
+        "",
+        true,
+        2,
+    ),
+    (
+        "IFCTRIANGULATEDFACESET(#1,$,$,((1,2,3)),(3,2,1))",
+        "",
+        false,
+        1,
+    ),
+    (
+        "IFCTRIANGULATEDFACESET(#1,$,$,((1,2,3)),(3,2,4))",
+        "",
+        true,
+        1,
+    ),
+    (
+        "IFCTRIANGULATEDFACESET(#1,$,$,((1,2,1)),(3,2,4))",
+        "",
+        true,
+        1,
+    ),
+    (
+        "IFCTRIANGULATEDFACESET(#1,$,$,((1,2,3)),(3,2))",
+        "",
+        true,
+        1,
+    ),
+    (
+        "IFCTRIANGULATEDFACESET(#1,$,$,((1,2,4)),(3,2,1,1))",
+        "",
+        false,
+        1,
+    ),
+    ("IFCTRIANGULATEDFACESET(#1,$,$,((1,2,3)),())", "", true, 1),
     // a face that is listed twice counts twice
-    Case {
-        set: "IFCPOLYGONALFACESET(#1,$,(#3,#4,#3),$)",
-        faces: "#3=IFCINDEXEDPOLYGONALFACE((1,2,3,1,2));#4=IFCINDEXEDPOLYGONALFACE((3,2,1));",
-        bad: false,
-        count: 7,
-    },
-    Case {
-        set: "IFCPOLYGONALFACESET(#1,$,(#3,#4),$)",
-        faces: "#3=IFCINDEXEDPOLYGONALFACE((1,2,3));#4=IFCINDEXEDPOLYGONALFACE((3,2,1,4));",
-        bad: true,
-        count: 3,
-    },
-    Case {
-        set: "IFCPOLYGONALFACESET(#1,$,(#3),(2,1,3,2))",
-        faces: "#3=IFCINDEXEDPOLYGONALFACE((1,2,3,4));#4=IFCINDEXEDPOLYGONALFACE((9,9,9));",
-        bad: false,
-        count: 2,
-    },
-    Case {
-        set: "IFCPOLYGONALFACESET(#1,$,(#3),(2,1,3,0))",
-        faces: "#3=IFCINDEXEDPOLYGONALFACE((1,2,3));",
-        bad: true,
-        count: 1,
-    },
+    (
+        "IFCPOLYGONALFACESET(#1,$,(#3,#4,#3),$)",
+        "#3=IFCINDEXEDPOLYGONALFACE((1,2,3,1,2));#4=IFCINDEXEDPOLYGONALFACE((3,2,1));",
+        false,
+        7,
+    ),
+    (
+        "IFCPOLYGONALFACESET(#1,$,(#3,#4),$)",
+        "#3=IFCINDEXEDPOLYGONALFACE((1,2,3));#4=IFCINDEXEDPOLYGONALFACE((3,2,1,4));",
+        true,
+        3,
+    ),
+    (
+        "IFCPOLYGONALFACESET(#1,$,(#3),(2,1,3,2))",
+        "#3=IFCINDEXEDPOLYGONALFACE((1,2,3,4));#4=IFCINDEXEDPOLYGONALFACE((9,9,9));",
+        false,
+        2,
+    ),
+    (
+        "IFCPOLYGONALFACESET(#1,$,(#3),(2,1,3,0))",
+        "#3=IFCINDEXEDPOLYGONALFACE((1,2,3));",
+        true,
+        1,
+    ),
 ];
-
-fn exchange_of(alloc: Global, set: &str, faces: &str) -> Result<Exchange, Fail> {
-    let text = format!(in alloc;
-        "ISO-10303-21;HEADER;FILE_SCHEMA(('IFC4'));ENDSEC;DATA;#1=IFCCARTESIANPOINTLIST3D(((0.,0.,0.),(1.,0.,0.),(0.,1.,0.)));#2={set};{faces}ENDSEC;END-ISO-10303-21;"
-    )?;
-    Ok(read(alloc, text.as_bytes()).ok().ok_or("unread")?)
-}
 
 /// Whether an index of the set counts nothing, asked twice: the second time with what the first has learnt.
 fn found_twice(
@@ -279,31 +347,35 @@ fn found_twice(
     Ok([found, again])
 }
 
+/// Whether an index of the set is bad, twice, and how many triangles it has, by bounds that they meet and one that they don't.
+fn assert_case(
+    rt: &impl Abort,
+    alloc: Global,
+    exchange: &Exchange,
+    bad: bool,
+    count: u64,
+) -> Result<(), AllocError> {
+    match exchange.look(2) {
+        Some(set) => {
+            let found = found_twice(alloc, exchange, &set)?;
+            assert_eq!(rt; found, [bad, bad]);
+            assert_eq!(rt; triangle_count(exchange, &set, 7), Some(count));
+            assert_eq!(rt; triangle_count(exchange, &set, count), Some(count));
+            let fewer = count.saturating_sub(1);
+            assert_eq!(rt; triangle_count(exchange, &set, fewer), None);
+        }
+        None => assert!(rt; false, "no set"),
+    }
+    Ok(())
+}
+
 #[test]
 fn bad_indexes_and_counts_are_found(rt: HostRuntime) -> Result<(), Fail> {
-    for case in CASES {
-        let text = case.set;
-        let bad = case.bad;
-        let count = case.count;
-        let exchange = exchange_of(rt.alloc(), case.set, case.faces)?;
-        let set = set_in(&exchange)?;
-        let found = found_twice(rt.alloc(), &exchange, &set)?;
-        assert_eq!(rt; found, [bad, bad], "at {text}");
-        assert_eq!(rt;
-            triangle_count(&exchange, &set, 7),
-            Some(count),
-            "at {text}"
-        );
-        assert_eq!(rt;
-            triangle_count(&exchange, &set, count),
-            Some(count),
-            "at {text}"
-        );
-        assert_eq!(rt;
-            triangle_count(&exchange, &set, count.saturating_sub(1)),
-            None,
-            "at {text}"
-        );
+    for (set, faces, bad, count) in CASES.iter() {
+        let exchange = exchange_of(rt.alloc(), &[POINTS, *set, ";", *faces])?;
+        let counted = assert_case(&rt, rt.alloc(), &exchange, *bad, *count);
+        drop(exchange);
+        counted?;
     }
     Ok(())
 }

@@ -9,3 +9,7 @@ mod chain_tests;
 mod face_tests;
 #[cfg(test)]
 mod operator_tests;
+#[cfg(test)]
+mod sample_axes;
+#[cfg(test)]
+mod sample_files;
