@@ -9,7 +9,7 @@ ghost use Rattle.box_lanes.specs.CoarseBoxes.{meets, may_meet, IsRough, Fits32};
 
 use crate::blocks::{Block, LANES, fill, fill_by};
 use crate::reach::{Reach, Rough, reach_of, rough_of};
-use bim_model::{Extent, Point};
+use bim_model::{Extent, Point, know};
 use std::alloc::{AllocError, Global};
 use std::marker::Model;
 use std::simd::prelude::*;
@@ -102,7 +102,7 @@ impl BoxTable {
             z: i32::MIN,
         };
         let reach = reach_of(probe, grow, &start);
-        let _count = self.len();
+        know(self.len());
         let mut places = Vec::new(alloc);
         self.add_from(0, &reach, &mut places)?;
         Ok(places)
@@ -138,7 +138,7 @@ impl BoxTable {
         ensures { OnOk result (places.new.items
             ≡ places.old.items ++ places_from from (meets reach.now) (drop from self.now)) }
     {
-        let _count = self.len();
+        know(self.len());
         if from == self.count {
             return Ok(());
         }
@@ -170,7 +170,7 @@ impl BoxTable {
         ensures { OnOk result (places.new.items ≡ places.old.items
             ++ part (meets reach.now) self.now from (min (block * 8 + 8) (length self.now))) }
     {
-        let _count = self.len();
+        know(self.len());
         let lanes = self.coarse_lanes(block * LANES, reach, rough) >> (from % LANES);
         if lanes == 0 {
             return Ok(());
@@ -236,7 +236,7 @@ impl BoxTable {
         ensures { (n : ℕ) → n ≤ 8 → at + n ≤ length self.now
             → result % 2 ^ n ≡ mask_l (map (meets reach.now) (take n (drop at self.now))) }
     {
-        let _blocks = self.blocks.as_slice();
+        know(self.blocks.as_slice());
         let block = &self.blocks[at / LANES];
         let far_x = far_lane(reach.later_x, &block.low_x, &block.high_x);
         let far_y = far_lane(reach.later_y, &block.low_y, &block.high_y);
@@ -260,8 +260,8 @@ impl BoxTable {
         ensures { (n : ℕ) → n ≤ 8 → at + n ≤ length self.now
             → result % 2 ^ n ≡ mask_l (map (may_meet reach.now) (take n (drop at self.now))) }
     {
-        let _reach = *reach;
-        let _blocks = self.blocks.as_slice();
+        know(*reach);
+        know(self.blocks.as_slice());
         let block = &self.blocks[at / LANES].coarse;
         let sides = &rough.sides;
         let x = i16x8::from_array(block[0]).simd_le(i16x8::splat(sides[3]))

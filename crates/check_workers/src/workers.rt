@@ -10,6 +10,7 @@ ghost use Rattle.check_workers.specs.WorkerTurns.{Teaches};
 ghost use Rattle.check_workers.specs.Joins.{IsNewWorker, WorkerOver, HasEach, ExtendsByWork, nothing_lacked, lacked_by, first_spent};
 
 use crate::work::work_loop;
+use bim_model::know;
 use bim_net::Gate;
 use book_turn::call_fault::{CallFault, SpentPass};
 use book_turn::pass::Pass;
@@ -172,7 +173,7 @@ pub fn make_workers(
     ensures count { IfOk result (λ ws. vec_len ws ≡ count) }
     ensures others { OnOk result (passes.new.items ≡ new_passes turn.now 0 first) }
 {
-    let _turn = turn;
+    know(turn);
     let mut workers = Vec::with_capacity(alloc, count as usize)?;
     for seat in 0..count {
         let Some(pass) = passes.pop() else {

@@ -45,6 +45,7 @@ impl<'a, R: Wait, G: Gate> Caller for ByTurn<'a, R, G> {
     }
 
     fn work(&self, own: &mut Pass<Book>) -> Result<(), AllocError> {
+        // For the proof alone: the pass is as it was.
         let _own = own;
         Ok(())
     }

@@ -9,6 +9,7 @@ ghost use Rattle.check_workers.specs.Joins.{IsNewWorker, WorkerOver, HasEach, Ar
 
 use crate::lane::{LaneEnd, serve_lane};
 use bim_io::Clock;
+use bim_model::know;
 use bim_net::{Door, Gate};
 use book_turn::call_fault::SpentPass;
 use book_turn::limits::MOST_PASSES;
@@ -218,7 +219,7 @@ fn join_lane<K: Serving, D: Door + Drop, C: Clock + Drop>(
     ensures joined { LanesJoined K.service links turn.now joined.new.into
         (map D.seen joined.new.doors.items) joined.new.failed joined.new.lack }
 {
-    let _links = links;
+    know(links);
     let Lane {
         pass,
         door,
