@@ -17,7 +17,7 @@ use std::simd::prelude::*;
 /// A list of boxes, in which those near a box are found eight at a time.
 #[derive(Drop)]
 pub struct BoxTable {
-    // The boxes, and behind them so many others that all are a multiple of eight.
+    // The boxes, and after them so many others that all are a multiple of eight.
     blocks: Vec<Block>,
     count: usize,
 }
@@ -61,7 +61,7 @@ impl BoxTable {
     }
 
     /// The boxes at these places, of which there are fewer than 2^32, in place of the boxes before. The room is
-    /// used again. An error where memory is wanting, which leaves no boxes.
+    /// used again. An error if memory runs out, which leaves no boxes.
     pub fn refill(&mut self, boxes: &[Extent], places: &[u32]) -> Result<(), AllocError>
         requires within { All (λ n. n < length boxes.now) places.now }
         requires few { length places.now < 2 ^ 32 }
@@ -92,7 +92,7 @@ impl BoxTable {
     }
 
     /// The places, from 0 and rising, of the boxes whose gap to the probe is at most `grow` grid numbers on each
-    /// axis. Coordinates and `grow` may be any. An error where memory is wanting.
+    /// axis. Coordinates and `grow` may be any. An error if memory runs out.
     pub fn within(&self, alloc: Global, probe: &Extent, grow: u32) -> Result<Vec<u32>, AllocError>
         ensures { IfOk result (λ places. places.items ≡ places_within probe.now grow self.now) }
     {
@@ -108,8 +108,8 @@ impl BoxTable {
         Ok(places)
     }
 
-    /// The same of the boxes behind the place `first` alone, as the only places of the list, and on each axis only
-    /// where the later of the box and the probe begins at `start` or behind it. An error where memory is wanting,
+    /// The same of the boxes after the place `first` alone, as the only places of the list, and on each axis only
+    /// where the later of the box and the probe begins at `start` or after it. An error if memory runs out,
     /// which leaves some of them.
     pub fn later_within(
         &self,
@@ -228,7 +228,7 @@ impl BoxTable {
     }
 
     /// A bit for each of the eight boxes from `at` on, the first the lowest: whether the box meets `reach`. Bits of
-    /// boxes behind the table's may be any.
+    /// boxes after the table's may be any.
     #[inline(always)]
     fn lanes(&self, at: usize, reach: &Reach) -> u64
         requires within { at < length self.now }
@@ -251,7 +251,7 @@ impl BoxTable {
     }
 
     /// A bit for each of the eight boxes from `at` on, the first the lowest: whether the box meets `reach` in steps
-    /// of 256, in which it is `rough`. Bits of boxes behind the table's may be any.
+    /// of 256, in which it is `rough`. Bits of boxes after the table's may be any.
     #[inline(always)]
     fn coarse_lanes(&self, at: usize, reach: &Reach, rough: &Rough) -> u64
         requires within { at < length self.now }

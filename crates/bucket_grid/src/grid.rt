@@ -164,7 +164,7 @@ fn buckets_of(
 
 impl Grid {
     /// The grid of a version of at most 1,000,000 elements. `TooSpread` where its memberships exceed 2,000,000:
-    /// they are counted first, and then nothing is placed. `Memory` where memory is wanting.
+    /// they are counted first, and then nothing is placed. `Memory` if memory runs out.
     pub fn of(alloc: Global, snapshot: Shared<Snapshot>) -> Result<Grid, GridError>
         requires { length (subjects_of snapshot.models) ≤ MOST_ELEMENTS }
         ensures version { IfOk result (λ made. made.version ≡ snapshot) }

@@ -25,7 +25,7 @@ use std::thread::{Threads, for_each_mut};
 /// What kept work from being done.
 #[derive(Drop)]
 pub struct Lack {
-    /// Whether memory was wanting.
+    /// Whether memory ran out.
     pub memory: bool,
     /// A pass that had made all its turns.
     pub spent: Option<SpentPass>,
@@ -188,7 +188,7 @@ pub fn make_workers(
     Ok(workers)
 }
 
-/// Joins the passes of all workers into one, and tells what kept them from working.
+/// Joins the passes of all workers into one, and says what kept them from working.
 pub fn join_workers(turn: &Turn<Book>, into: &mut Pass<Book>, workers: Vec<Worker>) -> Lack
     requires own { BelongsTo turn.now into.old }
     requires up_to { AllBefore turn_of (into.old.last + 1) into.old.seen }

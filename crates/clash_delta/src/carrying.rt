@@ -170,7 +170,7 @@ fn carried_set(
 
 /// The progress of a version's grid, from that of the version before. A bucket is done exactly where it was done
 /// before, its members have the same keys, classes, storeys and triangles, and the rules are the same. Its set is
-/// that from before, for this version and grid; the list of its pairs is shared. An error where memory is wanting.
+/// that from before, for this version and grid; the list of its pairs is shared. An error if memory runs out.
 pub fn carry(
     alloc: Global,
     done: &Progress,

@@ -36,7 +36,7 @@ impl Model for Published {
 
 impl Published {
     /// The clashes of the grid's version, of the sets of its buckets: one for each, in their order, found in this
-    /// grid. An error where memory is wanting.
+    /// grid. An error if memory runs out.
     pub fn of(
         alloc: Global,
         grid: Shared<Grid>,

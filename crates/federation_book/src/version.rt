@@ -153,7 +153,7 @@ impl KeptVersion {
         }
     }
 
-    /// Takes the set of a bucket, and tells how many are to be checked then.
+    /// Takes the set of a bucket, and says how many are to be checked then.
     pub fn put(&mut self, set: Shared<BucketSet>) -> u64
         requires content { set.work.grid.version ≡ self.old.content }
         requires bucket { IsBucket set.work.grid.boxes set.work.cell }

@@ -182,7 +182,7 @@ fn bodies_in_chunks_are_read(rt: HostRuntime) -> Result<(), Fail> {
     Ok(())
 }
 
-// The same of this text behind a head that announces chunks.
+// The same of this text after a head that announces chunks.
 fn chunks_tell(
     rt: &impl Abort,
     alloc: Global,

@@ -1,4 +1,4 @@
--- A step of a session with the work behind it.
+-- A step of a session with the work after it.
 use Rattle.std.proofs.Common.{ℕ, inl, inr, sym, subst, arith}
 use Rattle.bim_io.specs.StreamViews.{Outside, EndsEmpty}
 use Rattle.book_passes.specs.Lessons.{CallerSeen}

@@ -246,7 +246,7 @@ replied_alone k v w a old mid server so moments bytes here x =
       leaving = ap (λ (z : TalkState). z.leaving) x.2;
     }
 
--- the stop where this was asked for and written behind the answers
+-- the stop where this was asked for and written after the answers
 abbrev stop_at : (k : Service) (v : CallerSeen) (w a b : Outside) (old : TalkState) (server : CallerSeen) → SoFar k v w a old server → List ℕ → List ℕ → Stop
 stop_at k v w a b old server so moments tail = stop_of (start k v server) so.events so.steps so.printed b.source.ended so.rest so.told moments tail []
 
@@ -366,7 +366,7 @@ goes_write k v w a b old mid new server bytes (End e) so wants writing source sa
     of_kind moments here (inr (inl x)) = next_alone k v w a b old mid server so moments writing.1.0 bytes (alone_request k v w a old mid server so moments bytes x)
     of_kind moments here (inr (inr x)) = inr (x.0, fault_is k v w a b old mid server so moments writing.1.0 bytes x)
 
--- ---- the end, and want of memory
+-- ---- the end, and out of memory
 
 -- after the end of a talk
 goes_leave : (k : Service) (v : CallerSeen) (w a b : Outside) (old mid : TalkState) (server : CallerSeen) (e : SessionEnd) → SoFar k v w a old server → Wants a.clock b.clock old (Leave e) mid
@@ -389,7 +389,7 @@ goes_leave k v w a b old mid server e so wants own source sink empty =
         (so_far_same k v w a b old server so gave (source_quiet a.source b.source source, sink_quiet a.sink b.sink sink) (ap (λ (z : SourceSeen). z.ended) source)) e met.0 met.1
         met.2 met.3 met.4 empty
 
--- after want of memory for what comes next
+-- after out of memory for what comes next
 goes_lacks : (k : Service) (v : CallerSeen) (w a b : Outside) (old new : TalkState) (server : CallerSeen) → SoFar k v w a old server → LacksNext a.clock b.clock old new
     → b.source ≡ a.source → b.sink ≡ a.sink → EndsEmpty b.source → Finishes k v server w b (end.Memory old.served)
 goes_lacks k v w a b old new server so lacks source sink empty =
@@ -541,7 +541,7 @@ wrote_called k v w a b old mid new server server' so call waiting x receipt byte
 
 -- ---- a call that ends the session
 
--- where it stops, behind the answers
+-- where it stops, after the answers
 abbrev stop_called : (k : Service) (v : CallerSeen) (w a b : Outside) (old mid : TalkState) (server server' : CallerSeen) (so : SoFar k v w a old server) (call : BookRequest) (waiting : Waiting)
     → Asks k v w a b old mid server so call waiting → List ℕ → List Step → Stop
 stop_called k v w a b old mid server server' so call waiting x tail more =
@@ -560,7 +560,7 @@ ends_called k v w a b old mid server server' so call waiting x receipt e goes so
     (known_then k v w a b old mid server server' so call waiting x receipt goes) turned
     (answered_then k v w a b old mid server server' so call waiting x receipt goes) ends
 
--- memory was wanting, and the request may have taken a turn
+-- memory ran out, and the request may have taken a turn
 lacked_called : (k : Service) (v : CallerSeen) (w a b : Outside) (old mid : TalkState) (server server' : CallerSeen) (so : SoFar k v w a old server) (call : BookRequest) (waiting : Waiting)
     (x : Asks k v w a b old mid server so call waiting) (receipt : Result BookReceipt CallFault) → k.goes server (steps_of call server receipt) server'
     → b.source ≡ a.source → b.sink ≡ a.sink → EndsEmpty b.source

@@ -14,7 +14,7 @@ use federation_book::Book;
 use std::alloc::AllocError;
 use std::sync::Wait;
 
-/// A caller by a pass, which asks a gate before each call. It does no work behind answers: others do.
+/// A caller by a pass, which asks a gate before each call. It does no work after answers: others do.
 #[derive(Drop)]
 pub struct ByTurn<'a, R: Wait, G: Gate> {
     pub rt: &'a R,

@@ -101,7 +101,7 @@ fn take_step<B: Caller, S: Source, K: Sink, C: Clock>(
     }
 }
 
-// The work behind an answer.
+// The work after an answer.
 fn work_behind<B: Caller>(served: u64, caller: &B, own: &mut B::Own) -> AfterStep
     requires fits { B.fits caller.now own.old }
     ensures fits { B.fits caller.now own.new }
@@ -115,7 +115,7 @@ fn work_behind<B: Caller>(served: u64, caller: &B, own: &mut B::Own) -> AfterSte
     }
 }
 
-// Does what the talk wants, and behind the answer to a request the caller's work.
+// Does what the talk wants, and after the answer to a request the caller's work.
 fn step_and_work<B: Caller, S: Source, K: Sink, C: Clock>(
     talk: &mut Talk,
     caller: &B,
@@ -146,7 +146,7 @@ fn step_and_work<B: Caller, S: Source, K: Sink, C: Clock>(
     }
 }
 
-/// Reads requests, and answers them by the caller, until the session ends; behind each answered request the caller works.
+/// Reads requests, and answers them by the caller, until the session ends; after each answered request the caller works.
 /// What the caller had seen is a front of what it has seen; each reply that prints a turn is the book's at the entries
 /// below that turn, or, of clashes that the session was answered before, at the entries up to the turn printed last.
 pub fn run_session<B: Caller, S: Source, K: Sink, C: Clock>(

@@ -177,7 +177,7 @@ fn faults_stand_at_their_places(rt: HostRuntime) -> Result<(), Fail> {
     Ok(())
 }
 
-/// The statements of a header, the instances behind it, and the fault of the whole; none where it is read.
+/// The statements of a header, the instances after it, and the fault of the whole; none where it is read.
 #[derive(Clone, Copy)]
 struct Whole {
     header: &'static [u8],
@@ -476,7 +476,7 @@ fn assert_typed(rt: &impl Abort, instance: &InstanceRef<'_>) -> Result<(), Fail>
     Ok(())
 }
 
-/// A number behind a keyword, one behind two, and one in a list behind a keyword.
+/// A number after a keyword, one after two, and one in a list after a keyword.
 const MEASURES: &[u8] = b"#1=A(IfcLengthMeasure /*mm*/ ( 25.4 ),B(C(1.)),B((1.)));";
 
 #[test]

@@ -42,7 +42,7 @@ pub struct Lane<D: Door + Drop, C: Clock + Drop> {
     pub clock: C,
     /// Why it serves no more.
     pub end: LaneEnd,
-    /// Whether one of its sessions ended for want of memory, or of a turn.
+    /// Whether one of its sessions ended out of memory, or without a turn.
     pub lack: Lack,
 }
 
@@ -344,7 +344,7 @@ pub struct Served<D: Door + Drop> {
     pub doors: Vec<D>,
     /// Whether a lane ended by a fault of its door.
     pub failed: bool,
-    /// Whether memory was wanting, for a session or for work.
+    /// Whether memory ran out, for a session or for work.
     pub memory: bool,
     /// A pass that had made all its turns.
     pub spent: Option<SpentPass>,

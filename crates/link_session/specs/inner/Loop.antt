@@ -27,7 +27,7 @@ Going = CallerSeen → List Step → CallerSeen → Type 0
 
 -- ---- the parts of a step
 
--- how a read ends a session: it failed, or memory was wanting for its piece
+-- how a read ends a session: it failed, or memory ran out for its piece
 abbrev pub StopsReading : SourceSeen → SourceSeen → ℕ → List ℕ → SessionEnd → Type 0
 StopsReading source source' served piece e =
     ((e ≡ end.ReadFault served) × (piece ≡ []) × Rose source.faults source'.faults)
@@ -47,7 +47,7 @@ abbrev pub Writing : ℕ → SinkSeen → SinkSeen → List ℕ → AfterStep �
 Writing served sink sink' bytes Again = SinkTakes sink sink' bytes × (sink'.faults ≡ sink.faults)
 Writing served sink sink' bytes (End e) = (e ≡ end.WriteFault served) × WritesLess sink sink' bytes
 
--- how the answer to a call ends a session: the talk gives none, for want of memory or of a turn, or it was not written
+-- how the answer to a call ends a session: the talk gives none, out of memory or without a turn, or it was not written
 -- whole
 abbrev pub StopsAnswering : SinkSeen → SinkSeen → TalkState → Result BookReceipt CallFault → Waiting
     → SessionEnd → Type 0
@@ -88,7 +88,7 @@ Does settings goes served before after talk server (Call call) progress talk' se
 Does settings goes served before after talk server (Leave e) progress talk' server' =
     (progress ≡ End e) × (after.source ≡ before.source) × (after.sink ≡ before.sink) × (server' ≡ server)
 
--- memory was wanting for what a talk would have wanted
+-- memory ran out for what a talk would have wanted
 abbrev pub Stopped : Outside → Outside → TalkState → CallerSeen → AfterStep → TalkState → CallerSeen → Type 0
 Stopped before after talk server progress talk' server' =
     LacksNext before.clock after.clock talk talk' × (progress ≡ End (end.Memory talk.served))
@@ -102,9 +102,9 @@ StepsOn settings goes before after talk server progress talk' server' =
     × Does settings goes talk.served before after mid server want progress talk' server')
     ⊎ Stopped before after talk server progress talk' server'
 
--- ---- the work behind it
+-- ---- the work after it
 
--- the work behind an answer was done, so many requests being answered; or memory was wanting in it, which ends the session
+-- the work after an answer was done, so many requests being answered; or memory ran out in it, which ends the session
 abbrev pub WorksOn : Settings → Option ℕ → Going → ℕ → CallerSeen → AfterStep → CallerSeen → Type 0
 WorksOn settings buckets goes served server Again server' =
     WorksBehind settings buckets goes server (Ok tt) server'
@@ -112,7 +112,7 @@ WorksOn settings buckets goes served server (End e) server' =
     (e ≡ end.Memory served) × ((fault : AllocError)
     × WorksBehind settings buckets goes server (Err fault) server')
 
--- behind a step there is work exactly where it answered a request
+-- after a step there is work exactly where it answered a request
 abbrev pub WorksAfter : Settings → Option ℕ → Going → ℕ → TalkState → CallerSeen → AfterStep → AfterStep
     → CallerSeen
     → Type 0
@@ -122,7 +122,7 @@ WorksAfter settings buckets goes served talk server Again progress server' =
     ((talk.served ≤ served) × (progress ≡ Again) × (server' ≡ server))
     ⊎ ((served < talk.served) × WorksOn settings buckets goes talk.served server progress server')
 
--- a step of a session, and the work behind it
+-- a step of a session, and the work after it
 pub record StepsAndWorks (settings : Settings) (buckets : Option ℕ)
     (goes : CallerSeen → List Step → CallerSeen → Type 0) (before after : Outside) (talk : TalkState)
     (server : CallerSeen) (progress : AfterStep) (talk' : TalkState) (server' : CallerSeen) : Type 0 where
