@@ -1,4 +1,4 @@
-//! Streams that fail where they are told to, and the adapters over streams of a test.
+//! Streams that fail where they are set to, and the adapters over streams of a test.
 ghost use Rattle.std.specs.Prelude.{◌≤◌, IfOk};
 
 use bim_io::{

@@ -39,7 +39,7 @@ error_write s s' (Refused why) status answers five = prints_rose s s' (refusal_l
 error_write s s' File status answers five = let four = answers.0 in absurd (omega (arith, four, five))
 error_write s s' Memory status answers five = let six = answers.status_is in absurd (omega (arith, six, five))
 
--- memory is wanting for the words
+-- memory runs out for the words
 pub check_wanting : (said : Option CheckWords) (files : FilesSeen) (sink : SinkSeen) → Checks said files files sink sink 6
 check_wanting None files sink = inr (refl, record { status_is = refl; same = refl })
 check_wanting (Some said) files sink = inr (refl, record { status_is = refl; same = refl })

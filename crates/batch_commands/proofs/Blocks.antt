@@ -18,11 +18,11 @@ residual (Err x) e h = ap (λ y. Err y) h
 pub less_stops : (a b : SinkSeen) (bytes : List ℕ) → WritesLess a b bytes → Flushes a b bytes (Err Write)
 less_stops a b bytes w = ((w.0, w.1, w.2, w.4), w.5)
 
--- nothing is written where memory is wanting first
+-- nothing is written if memory runs out first
 pub memory_stops : (a : SinkSeen) (bytes : List ℕ) → WritesFront a a bytes × Stops a a Memory
 memory_stops a bytes = (([], bytes, refl, takes_none a), refl)
 
--- more bytes would have come behind those of which a front was written
+-- more bytes would have come after those of which a front was written
 front_longer : (a b : SinkSeen) (bytes rest whole : List ℕ) → WritesFront a b bytes → whole ≡ bytes ++ rest → WritesFront a b whole
 front_longer a b bytes rest whole f e =
     (f.0, f.1 ++ rest, e ∙ ap (λ xs. xs ++ rest) f.2 ∙ append_assoc f.0 f.1 rest, f.3)
@@ -65,7 +65,7 @@ put_stopped a b c x y s t rest whole stop p f e =
     let same : x ++ whole ≡ (x ++ (s ++ t)) ++ rest = ap (λ xs. x ++ xs) (e ∙ sym (append_assoc s t rest)) ∙ sym (append_assoc x (s ++ t) rest) in
     (front_longer a c (x ++ (s ++ t)) rest (x ++ whole) (front_later a b c x y s t p f.0) same, stops_later a b c stop p.3 f.1)
 
--- memory is wanting for a text
+-- memory runs out for a text
 pub put_wanting : (a b : SinkSeen) (x y s rest whole : List ℕ) → Puts a b x y s (Ok tt) → whole ≡ s ++ rest → WritesFront a b (x ++ whole) × Stops a b Memory
 put_wanting a b x y s rest whole p e =
     ((p.0, y ++ rest, ap (λ xs. x ++ xs) e ∙ put_parts x y s rest p.0 p.1, p.2), p.3)

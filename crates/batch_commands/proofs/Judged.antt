@@ -35,7 +35,7 @@ tells_on (Some x) None (Some z) p q = absurd q
 tells_on (Some x) (Some y) None p q = tt
 tells_on (Some x) (Some y) (Some z) p q = (q.0 ∙ p.0, λ n. q.1 n ∙ p.1 n)
 
--- what a call in the middle reads, which tells whether it tells, is what the files hold all along
+-- what a call in the middle reads, which says whether it tells, is what the files hold all along
 holds_within : (a b c d : Option FilesTold) (name bytes : List ℕ) → Tells a b → Tells b c → Tells c d → Holds b c name bytes → Holds a d name bytes
 holds_within None b c d name bytes p m q h = tt
 holds_within (Some x) b c None name bytes p m q h = tt

@@ -43,7 +43,7 @@ lines_at version pairs i p d text h is e =
 -- ---- put into a block
 
 module _ (version : Version) (pairs : List SetPair) (i : ℕ) (a b : SinkSeen) (x y : List ℕ) where
-  -- memory is wanting for the next line
+  -- memory runs out for the next line
   pub line_wanting : (all : List SetPair) → pairs ≡ all → Puts a b x y (clash_lines version (take i pairs)) (Ok tt)
       → WritesFront a b (x ++ clash_lines version all) × Stops a b Memory
   line_wanting all e p =

@@ -48,7 +48,7 @@ pub record ChecksBy (said : CheckWords) (files files' : FilesSeen) (sink sink' :
 abbrev pub Unasked : FilesSeen → FilesSeen → SinkSeen → SinkSeen → ℕ → Type 0
 Unasked files files' sink sink' status = (files' ≡ files) × (PrintsUsage sink sink' status)
 
--- what `check` does by what its words say, or memory was wanting for them
+-- what `check` does by what its words say, or memory ran out for them
 abbrev pub Checks : Option CheckWords → FilesSeen → FilesSeen → SinkSeen → SinkSeen → ℕ → Type 0
 Checks None files files' sink sink' status =
     Unasked files files' sink sink' status ⊎ ((files' ≡ files) × WantsMemory sink sink' status)
@@ -101,7 +101,7 @@ GeneratesAs false number count old new status =
 abbrev pub GeneratesBy : GenerateWords → SinkSeen → SinkSeen → ℕ → Type 0
 GeneratesBy said old new status = GeneratesAs said.file said.number said.count old new status
 
--- what `generate` does by what its words say, or memory was wanting before anything was written
+-- what `generate` does by what its words say, or memory ran out before anything was written
 abbrev pub Generates : Option GenerateWords → SinkSeen → SinkSeen → ℕ → Type 0
 Generates None old new status = PrintsUsage old new status ⊎ WantsMemory old new status
 Generates (Some said) old new status = GeneratesBy said old new status ⊎ WantsMemory old new status

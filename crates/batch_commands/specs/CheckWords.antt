@@ -17,11 +17,11 @@ use Rattle.batch_commands.specs.declared.check_words.CheckWords.{CheckWords}
 abbrev pub is_equals : ℕ → Bool
 is_equals byte = byte == 61
 
--- what a word says, of which this stands before its first `=` and that behind it
+-- what a word says, of which this stands before its first `=` and that after it
 abbrev pub word_of : List ℕ → List ℕ → Option ModelWord
 word_of name file = if is_model_name name then Some (record { name = name; file = file }) else None
 
--- the name and the file that a word says: what stands before and behind its first `=`
+-- the name and the file that a word says: what stands before and after its first `=`
 abbrev pub model_word : List ℕ → Option ModelWord
 model_word text =
     if nat_lt (position_or_len is_equals text) (length text)
@@ -78,6 +78,6 @@ check_command =
     with_rule (with_rule (with_rule (bare_command (codes "check")) (option_of (codes "rules")))
     (option_of (codes "grid"))) (list_of (codes "models"))
 
--- what the words behind `check` say: nothing where they are outside its grammar
+-- what the words after `check` say: nothing where they are outside its grammar
 abbrev pub check_words : List (List ℕ) → Option CheckWords
 check_words words = said_by check_command check_said words

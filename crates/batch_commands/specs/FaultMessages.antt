@@ -1,49 +1,43 @@
--- What is printed of a refusal: the number and the name of the fault, and its fields behind blanks.
+-- What is printed of a refusal: the code and the name of the fault, and its fields, with a blank before each.
 use Rattle.std.specs.Prelude.{ℕ, List, ◌++◌, codes}
 use Rattle.std.specs.Fmt.{decimal}
 use Rattle.bim_model.specs.declared.upload.UploadFault.{UploadFault}
-use Rattle.bim_model.specs.declared.upload.UploadFault.TheVariants as upload
 use Rattle.bucket_grid.specs.declared.grid.TheConstants.{MOST_MEMBERSHIPS}
-use Rattle.clash_rules.specs.declared.rule_fault.RuleFault.TheVariants as rule
-use Rattle.coord_json.specs.FaultTrees.{many_word}
+use Rattle.coord_json.specs.declared.fault_words.FaultFields.{FaultFields}
+use Rattle.coord_json.specs.declared.fault_words.FaultFields.TheVariants.{Bare, Place, Id, Reference, What, Index, Count}
+use Rattle.coord_json.specs.FaultWords.{many_word, upload_code, upload_name, upload_fields, rule_code, rule_name, rule_fields}
 use Rattle.clash_check.specs.declared.version_fault.TheConstants.{MOST_VERSION_ELEMENTS}
 use Rattle.clash_check.specs.declared.version_fault.VersionFault.{VersionFault}
 use Rattle.clash_check.specs.declared.version_fault.VersionFault.TheVariants as version
 use Rattle.batch_commands.specs.declared.rules_file.RulesFault.{RulesFault}
 use Rattle.batch_commands.specs.declared.rules_file.RulesFault.TheVariants as rules
 
--- a number behind a word
+-- a number after a word
 abbrev pub with_number : List ℕ → ℕ → List ℕ
 with_number word number = word ++ (codes " " ++ decimal number)
 
+-- a code, a name and what comes after them
+abbrev pub named : List ℕ → List ℕ → List ℕ → List ℕ
+named code name rest = code ++ (codes " " ++ (name ++ (codes " " ++ rest)))
+
+-- a fault by its code, its name and its fields
+abbrev pub fault_words : List ℕ → List ℕ → FaultFields → List ℕ
+fault_words code name Bare = code ++ (codes " " ++ name)
+fault_words code name (Place at) = named code name (decimal at)
+fault_words code name (Id id) = named code name (decimal id)
+fault_words code name (Reference id to) = named code name (decimal id ++ (codes " " ++ decimal to))
+fault_words code name (What what) = named code name (many_word what)
+fault_words code name (Index index) = named code name (decimal index)
+fault_words code name (Count count) = named code name (decimal count)
+
 -- a fault of an upload
 abbrev pub upload_words : UploadFault → List ℕ
-upload_words upload.NotPart21 = codes "U1 NotPart21"
-upload_words (upload.BadToken at) = with_number (codes "U2 BadToken") at
-upload_words (upload.BadStatement at) = with_number (codes "U3 BadStatement") at
-upload_words upload.WrongSchema = codes "U4 WrongSchema"
-upload_words (upload.DoubleId id) = with_number (codes "U5 DoubleId") id
-upload_words (upload.Dangling id to) = with_number (with_number (codes "U6 Dangling") id) to
-upload_words (upload.BadShape id) = with_number (codes "U7 BadShape") id
-upload_words (upload.LengthUnit id) = with_number (codes "U8 LengthUnit") id
-upload_words (upload.OffGrid id) = with_number (codes "U9 OffGrid") id
-upload_words (upload.TooFar id) = with_number (codes "U10 TooFar") id
-upload_words (upload.Oblique id) = with_number (codes "U11 Oblique") id
-upload_words (upload.PlacementLoop id) = with_number (codes "U12 PlacementLoop") id
-upload_words (upload.UnsupportedItem id) = with_number (codes "U13 UnsupportedItem") id
-upload_words (upload.BadIndex id) = with_number (codes "U14 BadIndex") id
-upload_words (upload.FaceStuck id) = with_number (codes "U15 FaceStuck") id
-upload_words (upload.VoidedFace id) = with_number (codes "U16 VoidedFace") id
-upload_words (upload.DoubleGuid id) = with_number (codes "U17 DoubleGuid") id
-upload_words (upload.TreeFault id) = with_number (codes "U18 TreeFault") id
-upload_words (upload.TooMany what) = codes "U19 TooMany " ++ many_word what
+upload_words fault = fault_words (upload_code fault) (upload_name fault) (upload_fields fault)
 
 -- a fault of rules
 abbrev pub rules_words : RulesFault → List ℕ
 rules_words rules.BadJson = codes "H9 BadJson"
-rules_words (rules.Rule (rule.TooManyRules count)) = with_number (codes "C2 TooManyRules") count
-rules_words (rules.Rule (rule.BadRule index)) = with_number (codes "C1 BadRule") index
-rules_words (rules.Rule (rule.Distance index)) = with_number (codes "C3 Distance") index
+rules_words (rules.Rule fault) = fault_words (rule_code fault) (rule_name fault) (rule_fields fault)
 
 -- a version that is too large, with its count and the limit
 abbrev pub version_words : VersionFault → List ℕ

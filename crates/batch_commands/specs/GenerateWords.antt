@@ -39,6 +39,6 @@ generate_command =
     with_rule (with_rule (with_rule (bare_command (codes "generate")) (option_of (codes "count")))
     (option_of (codes "number"))) (flag_of (codes "file"))
 
--- what the words behind `generate` say: nothing where they are outside its grammar
+-- what the words after `generate` say: nothing where they are outside its grammar
 abbrev pub generate_words : List (List ℕ) → Option GenerateWords
 generate_words words = said_by generate_command generate_said words

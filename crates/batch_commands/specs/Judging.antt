@@ -120,7 +120,7 @@ Quiet old new = Tells old.told new.told × (new.faults ≡ old.faults)
 abbrev pub Fails : FilesSeen → FilesSeen → Type 0
 Fails old new = Tells old.told new.told × Rose old.faults new.faults
 
--- why there is nothing: a refusal, a failure of the files, or want of memory
+-- why there is nothing: a refusal, a failure of the files, or out of memory
 abbrev pub Ends : FilesSeen → FilesSeen → (Refusal → Type 0) → JudgeError → Type 0
 Ends old new Is (Refused why) = Quiet old new × Is why
 Ends old new Is File = Fails old new

@@ -10,7 +10,7 @@ abbrev pub WritesFront : SinkSeen → SinkSeen → List ℕ → Type 0
 WritesFront old new bytes =
     (front : List ℕ) × (more : List ℕ) × (bytes ≡ front ++ more) × SinkTakes old new front
 
--- why no more was written: a write failed, or memory was wanting
+-- why no more was written: a write failed, or memory ran out
 abbrev pub Stops : SinkSeen → SinkSeen → Stop → Type 0
 Stops old new Write = Rose old.faults new.faults
 Stops old new Memory = new.faults ≡ old.faults
@@ -20,14 +20,14 @@ abbrev pub Flushes : SinkSeen → SinkSeen → List ℕ → Result (Unit {0}) St
 Flushes old new bytes (Ok u) = SinkTakes old new bytes × (new.faults ≡ old.faults)
 Flushes old new bytes (Err stop) = WritesFront old new bytes × Stops old new stop
 
--- bytes were put behind those of a block, of which a front was written
+-- bytes were put after those of a block, of which a front was written
 abbrev pub Puts : SinkSeen → SinkSeen → List ℕ → List ℕ → List ℕ → Result (Unit {0}) Stop → Type 0
 Puts old new before after bytes (Ok u) =
     (written : List ℕ) × (before ++ bytes ≡ written ++ after)
     × SinkTakes old new written × (new.faults ≡ old.faults)
 Puts old new before after bytes (Err stop) = WritesFront old new (before ++ bytes) × Stops old new stop
 
--- the exit status of a command that stopped at a write or for want of memory
+-- the exit status of a command that stopped at a write or out of memory
 abbrev pub stop_status : Stop → ℕ
 stop_status Write = 5
 stop_status Memory = 6
@@ -43,7 +43,7 @@ Prints old new bytes done status =
     ((status ≡ done) × SinkTakes old new bytes × (new.faults ≡ old.faults))
     ⊎ ((stop : Stop) × (status ≡ stop_status stop) × WritesFront old new bytes × Stops old new stop)
 
--- ---- the usage line, and want of memory
+-- ---- the usage line, and out of memory
 
 -- the line that says which commands there are
 abbrev pub usage_line : List ℕ
@@ -58,7 +58,7 @@ pub record PrintsUsage (old new : SinkSeen) (status : ℕ) : Type 0 where
   pub wrote : SinkTakes old new front
   pub short : ComesOfFault old.faults new.faults (more ≢ [])
 
--- memory was wanting before anything was written
+-- memory ran out before anything was written
 pub record WantsMemory (old new : SinkSeen) (status : ℕ) : Type 0 where
   pub status_is : status ≡ 6
   pub same : new ≡ old

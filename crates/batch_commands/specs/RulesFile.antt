@@ -38,12 +38,12 @@ rules_of_tree (Some tree) = with_fault (rules_of tree)
 abbrev pub rules_in : List ℕ → Result (List Rule) RulesFault
 rules_in bytes = rules_of_tree (object_of bytes)
 
--- the tree is the one that is there, or memory was wanting
+-- the tree is the one that is there, or memory ran out
 abbrev pub IsTreeOf : Result (Option Value) AllocError → Option Data → Type 0
 IsTreeOf (Ok tree) meant = option_map view tree ≡ meant
 IsTreeOf (Err e) meant = ⊤
 
--- the rules, or their fault, are what is meant, or memory was wanting
+-- the rules, or their fault, are what is meant, or memory ran out
 abbrev pub IsRulesRead : Result (List Rule) RulesError → Result (List Rule) RulesFault → Type 0
 IsRulesRead (Ok rules) meant = meant ≡ Ok rules
 IsRulesRead (Err (Fault f)) meant = meant ≡ Err f

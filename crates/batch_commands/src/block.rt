@@ -47,7 +47,7 @@ pub fn flush<K: Sink>(sink: &mut K, block: &mut Vec<u8>) -> Result<(), Stop>
     written
 }
 
-/// Puts a text behind what the block holds, and writes the block once it is full.
+/// Puts a text after what the block holds, and writes the block once it is full.
 pub fn put<K: Sink>(sink: &mut K, block: &mut Vec<u8>, text: &str) -> Result<(), Stop>
     ensures { Puts (K.seen sink.old) (K.seen sink.new) block.old.items block.new.items text.now result }
 {

@@ -64,7 +64,7 @@ fn check_said<F: Files, K: Sink>(
 
 /// Prints the clashes of the models that the words name, under the rules that they name: one line a clash in
 /// the order of keys, `MODEL GUID MODEL GUID RULE`, and then `clashes N`. Where the rules, a file or the
-/// version is refused, the line of the first refusal and nothing else. The words are those behind `check`. It
+/// version is refused, the line of the first refusal and nothing else. The words are those after `check`. It
 /// answers the exit status: 0 where the clashes are printed, 2 where the words are outside their grammar, 3
 /// where something is refused, 4 where a file can't be opened or read, 5 where a write failed, 6 where memory
 /// was wanting.

@@ -179,7 +179,7 @@ fn check_command<'a>(alloc: Global) -> Result<Command<'a>, AllocError>
     with_list(alloc, meshed, "models")
 }
 
-/// What the words behind `check` say, where they are in its grammar: `--rules FILE`, which must be there,
+/// What the words after `check` say, where they are in its grammar: `--rules FILE`, which must be there,
 /// `--grid exact` or `--grid snap`, each at most once, also spelled with `=`, and 1 to 64 words `NAME=FILE`
 /// of different names, each 1 to 64 characters of `A-Za-z0-9_.-`.
 pub fn check_words(alloc: Global, words: &[Text]) -> Result<Option<CheckWords>, AllocError>

@@ -108,7 +108,7 @@ fn numbers_text(
 }
 
 // How many elements, triangles and clashes a model has. A version of a generated model is never too large,
-// which is not proved: it would be answered as want of memory.
+// which is not proved: it would be answered as out of memory.
 fn summary_of(alloc: Global, model: Model) -> Result<String, AllocError>
     ensures { IfOk result (λ text. string_bytes text ≡ summary_of model) }
 {
@@ -170,8 +170,8 @@ fn generate<K: Sink>(alloc: Global, said: GenerateWords, sink: &mut K) -> u8
 
 /// Makes a valid model of so many elements, and prints its file, or the numbers of its elements, of its
 /// triangles and of its clashes where any two elements clash that touch, one a line. The words are those
-/// behind `generate`. It answers the exit status: 0 where all is printed, 2 where the words are outside their
-/// grammar, 5 where a write failed, 6 where memory was wanting.
+/// after `generate`. It answers the exit status: 0 where all is printed, 2 where the words are outside their
+/// grammar, 5 where a write failed, 6 where memory ran out.
 pub fn run_generate<K: Sink>(alloc: Global, words: &[Text], sink: &mut K) -> u8
     ensures does { Generates (generate_words words.now) (K.seen sink.old) (K.seen sink.new) result }
     ensures write { result ≡ 5 → Rose (K.seen sink.old).faults (K.seen sink.new).faults }

@@ -89,7 +89,7 @@ fn generate_command<'a>(alloc: Global) -> Result<Command<'a>, AllocError>
     with_flag(alloc, numbered, "file")
 }
 
-/// What the words behind `generate` say, where they are in its grammar: `--count N`, 1 to 10,000, which must
+/// What the words after `generate` say, where they are in its grammar: `--count N`, 1 to 10,000, which must
 /// be there, `--number N`, any of 64 bits, and `--file`, in any order, each at most once, also spelled
 /// `--count=N`. A number is 1 to 20 digits.
 pub fn generate_words(alloc: Global, words: &[Text]) -> Result<Option<GenerateWords>, AllocError>

@@ -19,7 +19,7 @@ pub const NO_FILE: u8 = 4;
 /// Where a write failed.
 const NO_WRITE: u8 = 5;
 
-/// Where memory was wanting.
+/// Memory ran out.
 pub const NO_MEMORY: u8 = 6;
 
 /// The status of what was to be printed: the one of success where it was.

@@ -204,19 +204,19 @@ asked_at moment request (Err fault) = Err fault
 unfoldable pub asked_by : ℕ → HttpRequest → Result Action RequestFault
 asked_by moment request = asked_at moment request (judged request (place_of request.target))
 
--- the answer is what is meant, or want of memory
+-- the answer is what is meant, or out of memory
 abbrev pub IsAskedAs : Result Action Refusal → Result Action RequestFault → Type 0
 IsAskedAs (Ok action) meant = meant ≡ Ok action
 IsAskedAs (Err (Fault fault)) meant = meant ≡ Err fault
 IsAskedAs (Err Memory) meant = ⊤
 
--- the value is the one that is there, or nothing is there, or want of memory
+-- the value is the one that is there, or nothing is there, or out of memory
 abbrev pub IsTreeOf : Result Value Refusal → Option Data → Type 0
 IsTreeOf (Ok value) meant = meant ≡ Some (view value)
 IsTreeOf (Err (Fault fault)) meant = (fault ≡ BadJson) × (meant ≡ None)
 IsTreeOf (Err Memory) meant = ⊤
 
--- what is read of a body, or its fault, is what is meant, or want of memory
+-- what is read of a body, or its fault, is what is meant, or out of memory
 abbrev pub IsMeantAs : {A : Type 0} → Result A Refusal → Result A RequestFault → Type 0
 IsMeantAs (Ok body) meant = meant ≡ Ok body
 IsMeantAs (Err (Fault fault)) meant = meant ≡ Err fault

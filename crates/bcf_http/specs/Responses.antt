@@ -26,7 +26,7 @@ unfoldable pub turn_line : Option ℕ → List ℕ
 turn_line None = []
 turn_line (Some turn) = codes "X-Book-Turn: " ++ decimal turn ++ codes "\r\n"
 
--- the connection is closed behind the response
+-- the connection is closed after the response
 unfoldable pub close_line : Bool → List ℕ
 close_line close = if close then codes "Connection: close\r\n" else []
 

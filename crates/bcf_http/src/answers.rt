@@ -151,7 +151,7 @@ fn text_of(
 }
 
 /// The response to a request of this kind. It prints the methods that are allowed, where another was asked
-/// for, the turn, if there is one, and `Connection: close` where the connection is closed behind it. It has no
+/// for, the turn, if there is one, and `Connection: close` where the connection is closed after it. It has no
 /// body where the method is HEAD.
 pub fn to_response(
     alloc: Global,

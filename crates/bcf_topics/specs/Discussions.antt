@@ -48,7 +48,7 @@ abbrev pub answer_of : Option TopicError → Result (Unit {0}) TopicError
 answer_of None = Ok tt
 answer_of (Some error) = Err error
 
--- the answer is the refusal; where none refuses, want of memory may
+-- the answer is the refusal; where none refuses, out of memory may
 abbrev pub IsAnswer : Result (Unit {0}) TopicError → Option TopicError → Type 0
 IsAnswer (Ok done) refusal = refusal ≡ None
 IsAnswer (Err Memory) refusal = refusal ≡ None

@@ -31,7 +31,7 @@ pub fn insert(
     Ok(())
 }
 
-/// Puts another body in a comment, and tells whether it is there.
+/// Puts another body in a comment, and says whether it is there.
 #[tactic(auto, unfolding(crate::specs::Comments::comment_of, crate::specs::Comments::comments_put))]
 pub fn replace(
     comments: &mut BTreeMap<(u64, u64), Comment>,
@@ -55,7 +55,7 @@ pub fn replace(
     }
 }
 
-/// Takes a comment away, and tells whether it was there.
+/// Takes a comment away, and says whether it was there.
 #[tactic(auto, unfolding(crate::specs::Comments::comment_of, crate::specs::Comments::comments_but))]
 pub fn remove(comments: &mut BTreeMap<(u64, u64), Comment>, topic: u64, serial: u64) -> bool
     ensures found { result ≡ is_some (comment_of topic serial comments.old.entries) }

@@ -41,7 +41,7 @@ pub fn find(topics: &[Topic], serial: u64) -> Option<&Topic>
     }
 }
 
-/// Adds a topic behind the others. An `Err` leaves them as they were.
+/// Adds a topic after the others. An `Err` leaves them as they were.
 pub fn push(topics: &mut Vec<Topic>, topic: Topic) -> Result<(), AllocError>
     requires rises { Rises topics.old.items }
     requires last { All (λ t. t.serial < topic.serial) topics.old.items }
@@ -53,7 +53,7 @@ pub fn push(topics: &mut Vec<Topic>, topic: Topic) -> Result<(), AllocError>
     Ok(())
 }
 
-/// Puts another body in a topic, and tells whether it is there.
+/// Puts another body in a topic, and says whether it is there.
 pub fn replace(topics: &mut Vec<Topic>, serial: u64, body: TopicBody, author: Author) -> bool
     requires { Rises topics.old.items }
     ensures found { result ≡ is_some (topic_of serial topics.old.items) }
@@ -72,7 +72,7 @@ pub fn replace(topics: &mut Vec<Topic>, serial: u64, body: TopicBody, author: Au
     }
 }
 
-/// Takes a topic away, and tells whether it was there.
+/// Takes a topic away, and says whether it was there.
 pub fn remove(topics: &mut Vec<Topic>, serial: u64) -> bool
     requires { Rises topics.old.items }
     ensures found { result ≡ is_some (topic_of serial topics.old.items) }

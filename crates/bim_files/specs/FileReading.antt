@@ -10,7 +10,7 @@ use Rattle.bim_files.specs.declared.front.Step.{Step}
 use Rattle.bim_files.specs.declared.front.Step.TheVariants.{Again, End}
 use Rattle.bim_files.specs.Files.{FilesSeen, IsFront, Holds, Tells}
 
--- a read went well: the bytes behind the others are those that the source lost, at least one where it goes
+-- a read went well: the bytes after the others are those that the source lost, at least one where it goes
 -- on, and none at its end
 abbrev pub GrownBy : SourceSeen → SourceSeen → List ℕ → List ℕ → ℕ → Step → Type 0
 GrownBy old new before after most Again =
@@ -18,7 +18,7 @@ GrownBy old new before after most Again =
     × (0 < length piece) × (length piece ≤ most)
 GrownBy old new before after most End = (after ≡ before) × Loses old.left new.left [] × IsAtEnd new.left
 
--- a read failed where the source did, or memory was wanting
+-- a read failed where the source did, or memory ran out
 abbrev pub Grown : SourceSeen → SourceSeen → List ℕ → List ℕ → ℕ → Result Step FileError → Type 0
 Grown old new before after most (Ok step) = GrownBy old new before after most step × (new.faults ≡ old.faults)
 Grown old new before after most (Err Failed) = Rose old.faults new.faults

@@ -119,7 +119,7 @@ sure_fresh name contents most = record {
   ended = false;
 }
 
--- one that tells what is left, and has answered its end, has nothing left
+-- one that says what is left, and has answered its end, has nothing left
 pub sure_ends_empty : (source : Option SureSourceState) (ended : Bool)
     → EndsEmpty (sure_source_seen source ended)
 sure_ends_empty None ended = λ is. tt

@@ -37,7 +37,7 @@ enum Step {
     End,
 }
 
-// Reads once, at most `most` bytes, and puts them behind the others.
+// Reads once, at most `most` bytes, and puts them after the others.
 fn read_once<S: NamedSource>(
     source: &mut S,
     room: &mut [u8],
@@ -85,7 +85,7 @@ fn read_front<S: NamedSource>(alloc: Global, source: &mut S) -> Result<Bytes, Fi
 }
 
 /// The bytes of the file of that name: all of them, or exactly the first 33,554,433 where there are more. The
-/// file is given back also where a read failed, or memory was wanting.
+/// file is given back also where a read failed, or memory ran out.
 pub fn read_file<F: Files>(alloc: Global, files: &mut F, name: &Text) -> Result<Bytes, FileError>
     ensures bytes { FileEnds (F.seen files.old) (F.seen files.new) name.now result }
 {

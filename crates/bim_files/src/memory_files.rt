@@ -1,4 +1,4 @@
-//! Files in memory that fail at the calls that they are told to fail at.
+//! Files in memory that fail at the calls that they are set to fail at.
 ghost use Rattle.std.specs.Prelude.{◌≡◌, ◌≤◌, Some, IfOk, IfSome, IfNone, IsErr, IsNone, OnErr, All};
 ghost use Rattle.std.specs.Prelude.{Contains, false, []};
 ghost use Rattle.bim_io.specs.Causes.{HasCause, counted};
@@ -54,7 +54,7 @@ impl NamedSource for LentSource {
 }
 
 /// Files in memory. The files of the numbers in `fails` can't be opened, counted from 1 over all openings;
-/// nor can a file that isn't there or is lent, nor one for which memory is wanting. Each source is as new:
+/// nor can a file that isn't there or is lent, nor one for which memory runs out. Each source is as new:
 /// its reads are counted anew.
 #[derive(Drop)]
 pub struct MemFiles {

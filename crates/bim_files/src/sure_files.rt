@@ -19,7 +19,7 @@ pub struct SureFile {
     pub contents: Bytes,
 }
 
-/// The source of a file in memory that never fails. One for which memory was wanting gives nothing, and tells
+/// The source of a file in memory that never fails. One for which memory ran out gives nothing, and tells
 /// neither its name nor its bytes.
 #[derive(Drop)]
 pub struct SureLentSource {

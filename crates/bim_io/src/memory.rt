@@ -1,4 +1,4 @@
-//! A source and a sink in memory that fail at the calls that they are told to fail at.
+//! A source and a sink in memory that fail at the calls that they are set to fail at.
 ghost use Rattle.std.specs.Prelude.{◌≡◌, ◌≤◌, ◌+◌, ◌↔◌, ◌^◌, ◌-◌, [], false, ℕ, List, Some, length, min, Contains, IfOk, IsErr, IsTrue};
 ghost use Rattle.std.specs.Io.{ReadsAtMost, WritesAtMost};
 ghost use Rattle.bim_io.specs.Causes.{HasCause, ReadGives, ReadTakes, ends_read, WritesSome, WriteTells, counted};
@@ -121,7 +121,7 @@ impl Source for MemSource {
     }
 }
 
-/// A sink that keeps what is written and whose writes fail where its list says so, and where memory is wanting.
+/// A sink that keeps what is written and whose writes fail where its list says so, and if memory runs out.
 #[derive(Drop)]
 pub struct MemSink {
     bytes: Vec<u8>,

@@ -116,8 +116,8 @@ impl Source for SureSource {
     }
 }
 
-/// A sink that keeps what is written and never fails. Where memory is wanting it takes the bytes all the same,
-/// and from then on no longer tells what it holds.
+/// A sink that keeps what is written and never fails. If memory runs out it takes the bytes all the same,
+/// and from then on no longer says what it holds.
 #[derive(Drop)]
 pub struct SureSink {
     bytes: Vec<u8>,

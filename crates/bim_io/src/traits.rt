@@ -25,7 +25,7 @@ pub trait Source {
         ensures end { (seen self.new).ended ≡ ends_read (seen self.old).ended (length room.new) result }
         ensures cause { HasCause (seen self.old).faults (seen self.new).faults result };
 
-    /// One that tells what is left, and has answered its end, has nothing left.
+    /// One that says what is left, and has answered its end, has nothing left.
     ghost at_end: { (s : Self) → EndsEmpty (seen s) };
 }
 

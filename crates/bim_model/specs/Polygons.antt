@@ -4,7 +4,7 @@ use Rattle.exact_arith.specs.Space.{Vector, nowhere, plus, cross_of}
 use Rattle.bim_model.specs.declared.geometry.Point.{Point}
 use Rattle.bim_model.specs.Points.{vector_of}
 
--- the sum of p × q over each point p of the list and the point q behind it
+-- the sum of p × q over each point p of the list and the point q after it
 abbrev pub along : List Point → Vector
 along [] = nowhere
 along (p ∷ []) = nowhere

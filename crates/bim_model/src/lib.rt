@@ -10,6 +10,7 @@ mod guid;
 mod identifiers;
 mod items;
 mod keys;
+mod known;
 mod laws;
 mod limits;
 mod model;
@@ -33,6 +34,7 @@ pub use guid::Guid;
 pub use identifiers::{id_of, serial_of};
 pub use items::{Duplicate, Items};
 pub use keys::{ElementKey, Pair};
+pub use known::know;
 pub use laws::{keys_rise, names_tell_models, smallest_boxes_are_unique};
 pub use limits::{
     MOST_CLASS, MOST_DISTANCE, MOST_LEVEL, MOST_NAME, MOST_RULES, MOST_TRIANGLES, MOST_UPLOAD,

@@ -6,6 +6,7 @@ ghost use Rattle.bim_model.specs.Snapshots.{with_model, without_model, IsSnapsho
 ghost use Rattle.bim_model.specs.declared.named_model.NamedModel.{NamedModel};
 
 use crate::items::Duplicate;
+use crate::known::know;
 use crate::named_model::NamedModel;
 use crate::rules::Rules;
 use crate::shared::Shared;
@@ -121,7 +122,7 @@ impl Snapshot {
     {
         let name = model.name.copy(alloc)?;
         let rules = self.rules.share()?;
-        let _elements = model.model.get().elements();
+        know(model.model.get().elements());
         let mut models = Vec::with_capacity(alloc, self.models.len() + 1)?;
         push_below(alloc, &self.models, name.as_str(), &mut models)?;
         models.push(model)?;

@@ -28,7 +28,7 @@ AreNew tells number (d ∷ ds) = IsNew tells number d × AreNew tells (number + 
 abbrev pub some_failed : List DoorSeen → Bool
 some_failed doors = list_any (λ (d : DoorSeen). nat_lt 0 d.faults) doors
 
--- doors are opened, or the host fails, or memory is wanting
+-- doors are opened, or the host fails, or memory runs out
 abbrev pub Opens : {X : Type 0} → Opening → HostSeen → Result X HostFault → HostSeen → Type 0
 Opens opening old (Ok doors) new =
     new ≡ record old { openings = counted old.openings; opened = Some opening }

@@ -1,4 +1,4 @@
-//! Gates in memory: one that holds nobody, and one that holds calls as it is told.
+//! Gates in memory: one that holds nobody, and one that holds calls as it is set to.
 
 use crate::connections::Gate;
 use bim_model::{Items, Shared};

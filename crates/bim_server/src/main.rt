@@ -11,7 +11,7 @@ use std::env;
 use std::io::{self, ErrorKind};
 use std::process::ExitCode;
 
-// The words behind the program's name; none where one of them is no UTF-8.
+// The words after the program's name; none where one of them is no UTF-8.
 fn words_of(rt: &HostRuntime) -> io::Result<Vec<Text>> {
     let alloc = rt.alloc();
     let mut words = Vec::new(alloc);

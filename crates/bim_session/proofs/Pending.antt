@@ -398,7 +398,7 @@ abbrev AreCalm : Settings → List Entry → List Step → Type 0
 AreCalm settings h [] = Unit {0}
 AreCalm settings h (s ∷ ss) = (IsPending (reply_at settings h s) → ⊥) × AreCalm settings h ss
 
--- steps have the turns behind this one
+-- steps have the turns after this one
 abbrev AreNumbered : ℕ → List Step → Type 0
 AreNumbered n [] = Unit {0}
 AreNumbered n (s ∷ ss) = (s.stamp.turn ≡ n + 1) × AreNumbered (n + 1) ss
@@ -479,7 +479,7 @@ calm_short s steps works =
     of_kind (inr (step, one, gives)) =
         subst (λ (ss : List Step). AreCalm s.settings s.history ss) (sym one) (calm_given s (s.last + 2 * works.count) step gives, tt)
 
--- what is known behind the work of an event
+-- what is known after the work of an event
 record IsClear (s : Standing) (steps : List Step) : Type 0 where
   calm : AreCalm s.settings s.history steps
   clear : left_behind s (last_turn s.last steps) ≡ 0
@@ -496,7 +496,7 @@ clear_works s steps all works =
     none_left None e enough = enough
     none_left (Some most) e enough = cc
 
--- the answer to a request takes the next turn at most, and where nothing was left before it the work behind it leaves nothing
+-- the answer to a request takes the next turn at most, and where nothing was left before it the work after it leaves nothing
 clear_event : (s : Standing) (event : Event) (own work : List Step) (printed : Printed) (moments bytes : List ℕ) → s.buckets ≡ None → left_behind s s.last ≡ 0
     → AnswersEvent s event moments bytes own printed → WorksBehind (past s event own printed) event work → IsClear (past s event own printed) work
 clear_event s frame.continue own work printed moments bytes all clear answers works = record {

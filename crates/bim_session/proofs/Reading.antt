@@ -55,7 +55,7 @@ or_last : (a : Bool) → (a || false) ≡ a
 or_last true = refl
 or_last false = refl
 
--- behind events of which none closes the last one decides
+-- after events of which none closes the last one decides
 pub is_closed-push : (n : ℕ) (events : List Event) (event : Event) → is_closed n events ≡ false → is_closed n (events ++ event ∷ []) ≡ closes (n + requests events) event
 is_closed-push n [] event open_ =
     or_last (closes n event) ∙ ap (λ k. closes k event) (let e : n ≡ n + 0 = omega arith in e)

@@ -269,7 +269,7 @@ behind_last s (frame.request r) steps works le =
     let last = on_last s s.last works.count steps works.worked in
     rw last within
 
--- the first of some answered events, with the work behind it, took no turn above the top
+-- the first of some answered events, with the work after it, took no turn above the top
 first_last : (s : Standing) (event : Event) (events : List Event) (moments out : List ℕ) (steps : List Step) (first : AnswersFirst s event events moments out steps)
     → s.last ≤ s.top → last_turn s.last (first.own ++ first.work) ≤ s.top
 first_last s event events moments out steps first le =
@@ -337,7 +337,7 @@ behind_past s event events steps own others first printed are =
     (s.served + counted event + requests events) (ap (λ ss. last_turn s.last ss) are ∙ last_turn-append s.last own others) refl
     (sym (add_assoc s.served (counted event) (requests events)))
 
--- one more event is answered after the others, behind which the connection was not closed, and the work behind it is done
+-- one more event is answered after the others, after which the connection was not closed, and the work after it is done
 pub Answered_push : (s : Standing) (events : List Event) (moments out : List ℕ) (steps : List Step) (printed : Printed)
     (event : Event) (asked bytes : List ℕ) (own work : List Step) (last : Printed)
     → Answered s events moments out steps printed → is_closed s.served events ≡ false → AnswersEvent (behind s events steps printed) event asked bytes own last

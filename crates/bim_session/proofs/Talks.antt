@@ -224,7 +224,7 @@ asks_kept waiting call old new notes kept (Ok want) same is writes state =
     (subst (λ (n : Notes). Writes (IsResponse (answer.Book kept) waiting.kind (Some n.turn) waiting.close) want) same writes) state
 asks_kept waiting call old new notes kept (Err e) same is writes state = tt
 
--- ---- want of memory
+-- ---- out of memory
 
 -- a request was taken
 pub stops_taken : (old new : TalkState) (f : Framer) (m : ℕ) (r : HttpRequest) (a b : ClockSeen)

@@ -30,7 +30,7 @@ IsWriteFault end = (n : ℕ) × (end ≡ WriteFault n)
 abbrev pub stated_settings : ℕ → Settings
 stated_settings projects = record { projects = projects; limits = stated_limits }
 
--- where a session over a new book begins, behind whose answers so many buckets are worked, and whose steps have turns up
+-- where a session over a new book begins, after whose answers so many buckets are worked, and whose steps have turns up
 -- to this one
 abbrev pub beginning : Settings → Option ℕ → List Entry → ℕ → Standing
 beginning settings buckets history top = record {
@@ -75,7 +75,7 @@ pub record ReadsAsNeeded (most : Option ℕ) (input : List ℕ) (events : List E
 -- A source gave the input and has nothing left once it answered its end, a clock gave the moments, and a sink
 -- took the output. The steps of the session are the turns of a run with one actor, from 1 without a gap, and
 -- its history is the one whose entries below a printed turn decide the reply. They are those of the requests,
--- and behind each answer those of the work on buckets. It ends by a fault exactly where a read or a write
+-- and after each answer those of the work on buckets. It ends by a fault exactly where a read or a write
 -- failed. Where an object doesn't tell, some input, some moments and some output are meant.
 --
 -- What is written before a read: since a session ends by the first call that fails, a read or a write,
@@ -114,7 +114,7 @@ status_of (Memory n) = 6
 
 -- ---- whole clashes
 
--- the reply tells that buckets of a version are still to be checked
+-- the reply says that buckets of a version are still to be checked
 abbrev pub IsPending : ReplyBody → Type 0
 IsPending body = (version : ℕ) × (left : ℕ) × (body ≡ Refused (Pending version left))
 
@@ -123,7 +123,7 @@ abbrev pub reply_at : Settings → List Entry → Step → ReplyBody
 reply_at settings history step =
     (reply_of settings (at_turn step.stamp.turn history) step.stamp step.request).body
 
--- where all buckets are worked behind each answer, no step of the session is answered so
+-- where all buckets are worked after each answer, no step of the session is answered so
 abbrev pub NoneIsPending : Type 0
 NoneIsPending =
     (settings : Settings) (before after : Outside) (end : SessionEnd)

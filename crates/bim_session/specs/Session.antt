@@ -59,7 +59,7 @@ requests (event ∷ events) = counted event + requests events
 abbrev pub most_requests : ℕ
 most_requests = MOST_REQUESTS
 
--- the connection is closed behind the answer to the request of this number, counted from 1, which asks for
+-- the connection is closed after the answer to the request of this number, counted from 1, which asks for
 -- that or is the last that is answered
 abbrev pub closes_after : HttpRequest → ℕ → Bool
 closes_after request number = request.close || number == most_requests
@@ -69,7 +69,7 @@ abbrev pub closes : ℕ → Event → Bool
 closes served frame.continue = false
 closes served (frame.request r) = closes_after r (served + 1)
 
--- the connection is closed behind one of the events
+-- the connection is closed after one of the events
 abbrev pub is_closed : ℕ → List Event → Bool
 is_closed served [] = false
 is_closed served (event ∷ events) = closes served event || is_closed (served + counted event) events
@@ -164,7 +164,7 @@ with_set None told sets = sets
 with_set (Some project) None sets = sets
 with_set (Some project) (Some told) sets = (project, told.0) ∷ sets
 
--- what a session has printed behind a reply to a step
+-- what a session has printed after a reply to a step
 abbrev pub printed_after : Step → BookReply → Printed → Printed
 printed_after step reply before = record {
   turn = step.stamp.turn;
@@ -190,7 +190,7 @@ pub record TakesIdly (a : Asking) (steps : List Step) : Type 0 where
   pub taken : TakesTurn a steps
   pub idle : of_turn taken.step.stamp.turn a.standing.history ≡ []
 
--- memory is wanting for the answer: nothing is changed, and no turn is printed
+-- memory runs out for the answer: nothing is changed, and no turn is printed
 pub record LacksMemory (a : Asking) (bytes : List ℕ) (steps : List Step) (printed : Printed) : Type 0 where
   pub response : IsResponseTo a answer.Memory None bytes
   pub idle : (steps ≡ []) ⊎ TakesIdly a steps
@@ -215,7 +215,7 @@ AnswersEvent s frame.continue moments bytes steps printed =
 AnswersEvent s (frame.request r) moments bytes steps printed =
     (moment : ℕ) × (moments ≡ moment ∷ []) × Answers (asking s moment r) bytes steps printed
 
--- the work behind an event: buckets are worked behind the answer to a request, and behind nothing else
+-- the work after an event: buckets are worked after the answer to a request, and after nothing else
 abbrev pub WorksBehind : Standing → Event → List Step → Type 0
 WorksBehind s frame.continue steps = steps ≡ []
 WorksBehind s (frame.request r) steps = Works s steps
@@ -230,8 +230,8 @@ abbrev pub past : Standing → Event → List Step → Printed → Standing
 past s event steps printed =
     record s { last = last_turn s.last steps; printed = printed; served = s.served + counted event }
 
--- The first of some events is answered, each request at the moment of its own, and the work behind it is done; the
--- other events come after. Behind the answer that closes the connection none is answered.
+-- The first of some events is answered, each request at the moment of its own, and the work after it is done; the
+-- other events come after. After the answer that closes the connection none is answered.
 pub record AnswersFirst (s : Standing) (event : Event) (events : List Event) (moments out : List ℕ)
     (steps : List Step) : Type 0 where
   pub asked : List ℕ
@@ -362,13 +362,13 @@ EndsWriting s end =
     (end ≡ WriteFault s.standing.served) × (s.closed ≡ false)
     × ((more : List ℕ) × (more ≢ []) × IsNext s (s.bytes ++ more))
 
--- memory was wanting, and nothing of what comes next was written
+-- memory ran out, and nothing of what comes next was written
 abbrev pub EndsMemory : Stop → SessionEnd → Type 0
 EndsMemory s end =
     (end ≡ Memory s.standing.served) × (s.closed ≡ false) × (s.bytes ≡ [])
     × (((s.moments ≡ []) × (s.steps ≡ [])) ⊎ TakesUnanswered s)
 
--- memory was wanting in the work behind the answer to the next request, which was written whole
+-- memory ran out in the work after the answer to the next request, which was written whole
 pub record EndsWorking (s : Stop) (end : SessionEnd) : Type 0 where
   pub request : HttpRequest
   pub later : List ℕ

@@ -128,13 +128,13 @@ waiting_for request number changes reads = record {
   reads = reads;
 }
 
--- how a session ends behind the answer to the request of this number, if it does
+-- how a session ends after the answer to the request of this number, if it does
 abbrev pub leaving_after : ℕ → Bool → Option SessionEnd
 leaving_after number close =
     if number == most_requests then Some (end.Spent number)
     else (if close then Some (end.Asked number) else None)
 
--- one more request is answered, behind which the connection is closed or not
+-- one more request is answered, after which the connection is closed or not
 abbrev pub with_answer : Bool → TalkState → TalkState
 with_answer close s =
     record s { served = s.served + 1; waits = None; leaving = leaving_after (s.served + 1) close }
@@ -159,7 +159,7 @@ with_end e s = record s { waits = None; leaving = Some e }
 abbrev pub with_spent : TalkState → TalkState
 with_spent s = with_end (end.SpentTurns s.served) s
 
--- memory was wanting, which ends the talk
+-- memory ran out, which ends the talk
 abbrev pub with_memory : TalkState → TalkState
 with_memory s = with_end (end.Memory s.served) s
 
@@ -171,7 +171,7 @@ pub record Refuses (moment : ℕ) (request : HttpRequest) (waiting : Waiting) (b
   pub refused : IsRefusedBy moment request refusal
   pub response : IsResponse refusal waiting.kind None waiting.close bytes
 
--- the answer to a request without a turn: its refusal, or want of memory
+-- the answer to a request without a turn: its refusal, or out of memory
 abbrev pub AnswersAlone : ℕ → HttpRequest → Waiting → List ℕ → Type 0
 AnswersAlone moment request waiting bytes =
     Refuses moment request waiting bytes ⊎ IsResponse answer.Memory waiting.kind None waiting.close bytes
@@ -310,7 +310,7 @@ IsReady (Write bytes) s = Unit {0}
 IsReady (Call call) s = IsSome s.waits × (s.leaving ≡ None)
 IsReady (Leave e) s = Unit {0}
 
--- memory was wanting for what a talk would have wanted next; it may have taken a request
+-- memory ran out for what a talk would have wanted next; it may have taken a request
 abbrev pub StopsShort : List ℕ → Bool → List ℕ → TalkState → Type 0
 StopsShort rest told moments new = (moments ≡ []) ⊎ TakesRequest rest told moments new.framer
 
@@ -325,7 +325,7 @@ Wants before after old want new =
     (rest : List ℕ) (told : Bool) → Stands old.framer rest told
     → (moments : List ℕ) × ClockGives before after moments × Talks rest told moments old want new
 
--- for whatever bytes the talk stood: where memory was wanting for that
+-- for whatever bytes the talk stood: where memory ran out for that
 abbrev pub StopsNext : ClockSeen → ClockSeen → TalkState → TalkState → Type 0
 StopsNext before after old new =
     (rest : List ℕ) (told : Bool) → Stands old.framer rest told
@@ -357,7 +357,7 @@ abbrev pub IsNoted : ℕ → Option ℕ → Answer → Notes → Notes → Type 
 IsNoted turn reads (answer.Book told) old new = Noted turn reads told old new
 IsNoted turn reads other old new = new ≡ old
 
--- The response to a call that the book answered with this receipt, which is noted; or for which memory was wanting, and
+-- The response to a call that the book answered with this receipt, which is noted; or for which memory ran out, and
 -- then the notes stay.
 abbrev pub AnswersCall : Result BookReceipt CallFault → Waiting → Notes → List ℕ → Notes → Type 0
 AnswersCall (Ok receipt) waiting notes bytes later =
@@ -369,7 +369,7 @@ AnswersCall (Err call_fault.Memory) waiting notes bytes later =
     IsResponse answer.Memory waiting.kind None waiting.close bytes × (later ≡ notes)
 AnswersCall (Err (call_fault.PassSpent pass)) waiting notes bytes later = ⊥
 
--- how a talk ends that answers no call: memory was wanting, or the pass has made all its turns
+-- how a talk ends that answers no call: memory ran out, or the pass has made all its turns
 abbrev pub LeavesCall : Result BookReceipt CallFault → TalkState → SessionEnd → TalkState → Type 0
 LeavesCall (Ok receipt) old e new = (e ≡ end.Memory old.served) × (new ≡ with_memory old)
 LeavesCall (Err call_fault.Memory) old e new = (e ≡ end.Memory old.served) × (new ≡ with_memory old)
@@ -385,7 +385,7 @@ Replies receipt waiting old (Write bytes) new =
     × (new ≡ with_notes new.notes (with_answer waiting.close old))
 Replies receipt waiting old (Leave e) new = LeavesCall receipt old e new
 
--- what a talk wants where memory was wanting for its call
+-- what a talk wants if memory ran out for its call
 abbrev pub LacksFor : Waiting → TalkState → Want → TalkState → Type 0
 LacksFor waiting old More new = ⊥
 LacksFor waiting old (Call call) new = ⊥

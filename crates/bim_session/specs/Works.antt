@@ -1,4 +1,4 @@
--- The steps of a session at one history: those of its requests, and the work on buckets behind them.
+-- The steps of a session at one history: those of its requests, and the work on buckets after them.
 use Rattle.std.specs.Prelude.{◌≡◌, ◌⊎◌, ℕ, zero, suc, ◌+◌, ◌*◌, ◌<◌, ◌≤◌, ◌++◌, List, [], ◌∷◌, Option, Some, None}
 use Rattle.bucket_check.specs.ClashSets.{SetValue, own_places}
 use Rattle.book_history.specs.declared.limits.Settings.{Settings}
@@ -16,7 +16,7 @@ pub record Printed : Type 0 where
   pub turn : ℕ
   pub sets : List (ℕ × ℕ)
 
--- where a session stands between two answers: the book's settings and history, how many buckets are worked behind each
+-- where a session stands between two answers: the book's settings and history, how many buckets are worked after each
 -- answered request, or all, the last turn that was taken, what was printed, the greatest turn that may be taken, and how
 -- many requests were answered
 pub record Standing : Type 0 where
@@ -58,7 +58,7 @@ pub record Gives (s : Standing) (last : ℕ) (step : Step) : Type 0 where
   pub given : (reply_of s.settings (at_turn step.stamp.turn s.history) step.stamp step.request).body
       ≡ Work order
 
--- a bucket is worked: it is given out, and its set is brought at the turn behind that
+-- a bucket is worked: it is given out, and its set is brought at the turn after that
 pub record WorksOne (s : Standing) (last : ℕ) (steps : List Step) : Type 0 where
   pub first : Step
   pub second : Step
@@ -70,7 +70,7 @@ pub record WorksOne (s : Standing) (last : ℕ) (steps : List Step) : Type 0 whe
   pub request : second.request ≡ Finish set
   pub taken : IsTaken s second
 
--- so many buckets are worked after a turn, one behind the other
+-- so many buckets are worked after a turn, one after the other
 abbrev pub WorksOn : Standing → ℕ → ℕ → List Step → Type 0
 WorksOn s last zero steps = steps ≡ []
 WorksOn s last (suc count) steps =
@@ -87,7 +87,7 @@ abbrev pub IsMore : Option ℕ → ℕ → Type 0
 IsMore None count = Unit {0}
 IsMore (Some most) count = count < most
 
--- the work behind an answer: buckets are worked until none is to be checked, at most as many as there may be
+-- the work after an answer: buckets are worked until none is to be checked, at most as many as there may be
 pub record Works (s : Standing) (steps : List Step) : Type 0 where
   pub count : ℕ
   pub worked : WorksOn s s.last count steps

@@ -37,7 +37,7 @@ fn upload_of(
 }
 
 /// What the response needs of a request; and the call of the book that the request means at a moment, in seconds since
-/// 1970, or how it is answered without one: by the fault that it alone decides, or by want of memory. The model of an
+/// 1970, or how it is answered without one: by the fault that it alone decides, or as out of memory. The model of an
 /// upload is built here, before any turn is taken. The call brings no set of a bucket, so it may be made at every history.
 pub fn call_of(
     alloc: Global,

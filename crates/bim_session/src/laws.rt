@@ -12,7 +12,7 @@ pub fn answers_are_to_the_events()
         → Spells bytes told (events ++ more) ending }
 {}
 
-/// Where all buckets are worked behind each answer, as without `--buckets`, no step of a replayed session is answered
+/// Where all buckets are worked after each answer, as without `--buckets`, no step of a replayed session is answered
 /// that buckets are still to be checked.
 pub fn no_reply_is_pending()
     ensures { NoneIsPending }

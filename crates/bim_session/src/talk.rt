@@ -69,7 +69,7 @@ impl Model for Talk {
         × IsOwnLeaving t.leaving };
 }
 
-// Whether the connection is closed behind the answer to the request of this number.
+// Whether the connection is closed after the answer to the request of this number.
 fn closes_after(request: &HttpRequest, number: u64) -> bool
     ensures { result ≡ closes_after request.now number }
 {
@@ -217,7 +217,7 @@ impl Talk {
 
     /// What is to be done next. A request that is taken is read at a moment of its own, which the clock is
     /// asked for then; for nothing else is it asked. More bytes are wanted only where all events of those fed
-    /// were answered. An `Err` ends the talk for want of memory: each later call says so.
+    /// were answered. An `Err` ends the talk out of memory: each later call says so.
     pub fn next<C: Clock>(&mut self, clock: &mut C) -> Result<Want, AllocError>
         requires idle { self.old.waits ≡ None }
         ensures want { IfOk result (λ want.
@@ -263,7 +263,7 @@ impl Talk {
         }
     }
 
-    // Ends the talk for want of memory.
+    // Ends the talk out of memory.
     fn give_up(&mut self) -> SessionEnd
         ensures end { result ≡ SessionEnd.Memory self.old.served }
         ensures state { self.new ≡ with_memory self.old }
@@ -423,7 +423,7 @@ impl Talk {
     }
 
     /// Takes the book's answer to the call that waits, or why there is none, and says what is to be done next: the
-    /// response is written; or the talk ends, for want of memory or since no turn is left. An `Err` does not come.
+    /// response is written; or the talk ends, out of memory or since no turn is left. An `Err` does not come.
     pub fn answer(&mut self, receipt: Result<Receipt<Book>, CallFault>) -> Result<Want, AllocError>
         requires waits { IsSome self.old.waits }
         requires open_ { self.old.leaving ≡ None }
@@ -451,7 +451,7 @@ impl Talk {
         })
     }
 
-    // The response to a call for which memory was wanting.
+    // The response to a call for which memory ran out.
     fn answer_memory(&mut self, waiting: Waiting) -> Result<Want, AllocError>
         requires { self.old.leaving ≡ None }
         ensures want { IfOk result (λ want. LacksFor waiting self.old want self.new) }

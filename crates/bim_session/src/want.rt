@@ -21,7 +21,7 @@ pub enum Want {
 #[derive(Clone, Copy, Debug, PartialEq, Eq)]
 pub struct Waiting {
     pub kind: ReplyKind,
-    /// The connection is closed behind the response.
+    /// The connection is closed after the response.
     pub close: bool,
     /// The call asks for a change.
     pub changes: bool,

@@ -1,4 +1,4 @@
--- What is left of bytes behind some, and what stands there.
+-- What is left of bytes after some, and what stands there.
 use Rattle.std.proofs.Common.{◌≡◌, ℕ, zero, suc, ◌+◌, ◌<◌, ◌≤◌, List, [], ◌∷◌, length, get_or, drop, take, nat_lt, true, false, refl, ap, arith, add-one, lt-ltb, le-ltb}
 
 pub skip_more : (bs cs : List ℕ) (b i : ℕ) → drop i bs ≡ b ∷ cs → drop (i + 1) bs ≡ cs

@@ -40,7 +40,7 @@ powers p q d e =
 regroup : (m a b : ℕ) → m * a * b ≡ m * (a * b)
 regroup m a b = omega arith
 
--- a number with zeros behind it is the number without them, at a higher power
+-- a number with zeros after it is the number without them, at a higher power
 pub same_value : (b : Bool) (m z : ℕ) (p q : ℤ) → p ≡ q +ℤ pos z → SameValue (record { number = signed b m; power = p }) (record { number = signed b (m * 10 ^ z); power = q })
 same_value b m z p q e =
     let left : signed b m *ℤ pos (10 ^ above p) *ℤ pos (10 ^ below q) ≡ signed b (m * 10 ^ above p * 10 ^ below q) = ap (λ (x : ℤ). x *ℤ pos (10 ^ below q)) (signed_times b m (10 ^ above p)) ∙ signed_times b (m * 10 ^ above p) (10 ^ below q) in

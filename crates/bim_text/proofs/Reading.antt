@@ -24,7 +24,7 @@ if_none (Some x) h = tt
 read_parts : (bs : List ℕ) (s : Spelling) → IsRead s bs → IsRead (parts bs) bs
 read_parts bs s r = let e = parts_only s bs r.number in subst (λ (x : Spelling). IsRead x bs) (sym e) r
 
--- places: a behind the sign, b behind the digits, c behind the point and its digits
+-- places: a after the sign, b after the digits, c after the point and its digits
 at_whole : (bs : List ℕ) (a : ℕ) → a ≡ 0 + length (sign_bytes (sign_at bs)) → drop a bs ≡ unsigned bs
 at_whole bs a e = let f : a ≡ length (sign_bytes (sign_at bs)) = omega (arith, e) in ap (λ (n : ℕ). drop n bs) f
 
@@ -127,7 +127,7 @@ read_is bs a b c k l short e f n g x y is low high =
     pos_of_ne : (n : ℕ) → (n ≡ 0 → ⊥) → 0 < n
     pos_of_ne n h = grind arith
 
--- its exponent, and how many of its digits stand behind the point
+-- its exponent, and how many of its digits stand after the point
 pub power_is : (bs : List ℕ) (a b c n : ℕ) (e : ℤ) → a ≡ 0 + length (sign_bytes (sign_at bs)) → b ≡ a + length (front (drop a bs)) → c ≡ b + length (fraction_bytes (fraction_at (drop b bs)))
     → e ≡ exponent_of (exponent_at (drop c bs)) → n ≡ length (fraction_digits (fraction_at (drop b bs))) → (written (parts bs)).power ≡ e -ℤ pos n
 power_is bs a b c n e f g h x y =

@@ -89,7 +89,7 @@ pub ruleset guids = (guid_leaves, guid_lacks_room, guid_lacks_char)
 pub leaves_none : (test : List ℕ → Bool) → Leaves test [] test
 leaves_none test = record { same = λ more. refl }
 
--- One row behind others.
+-- One row after others.
 
 pub rows_some : (bs : List ℕ) (test left : List ℕ → Bool) → 0 < length bs → Leaves test (row_of bs).gives left → test (rows bs) ≡ left (rows (drop (row_of bs).size bs))
 rows_some bs test left h p = ap test (rows_step bs h) ∙ p.same (rows (drop (row_of bs).size bs))
@@ -102,7 +102,7 @@ rows_shorter bs h = let f = row_fits bs h in omega (arith, f.0, f.1, length-drop
 
 pub ruleset steps = (rows_shorter, text_cleaned)
 
--- One character behind others.
+-- One character after others.
 
 joined : (n width at : ℕ) (bs more : List ℕ) → 0 < n → groups n width bs at ++ more ≡ encode_utf8 (character (group width bs at)) ++ (groups (n - 1) width bs (at + width) ++ more)
 joined n width at bs more h = rw (groups_step n width at bs h) (append_assoc (encode_utf8 (character (group width bs at))) (groups (n - 1) width bs (at + width)) more)

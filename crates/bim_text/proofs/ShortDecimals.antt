@@ -11,7 +11,7 @@ use Rattle.bim_text.specs.Decimals.{Reads, WritesWhole, value_of}
 use Rattle.bim_text.specs.Short.{SpellsShort, short_value}
 use Rattle.bim_text.proofs.Powers.{same_value, same_zero}
 
--- a number without the zeros behind it
+-- a number without the zeros after it
 record Stripped (n : ℕ) : Type 0 where
   pub m : ℕ
   pub z : ℕ

@@ -142,7 +142,7 @@ one_decimal text d e r q =
     one_form d.negative e.negative d.digits e.digits d.exp e.exp (written r.spelling) (form_of d) (form_of e) r.value
     (subst (λ (s : Spelling). SameValue (value_of e) (written s)) same q.value)
 
--- A decimal that ends behind the point isn't whole.
+-- A decimal that ends after the point isn't whole.
 
 power_above : (b c : Bool) (m n : ℕ) (x : ℤ) (w : Scaled) → IsForm b m x → SameValue (value b m x) w → SameValue (value c n (pos 0)) w → x <ℤ pos 0 → ⊥
 power_above b c m n (pos i) w f h k below = omega (arith, ints, below)

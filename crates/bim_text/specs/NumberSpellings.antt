@@ -1,5 +1,5 @@
 -- Numbers as they are spelled (ISO 10303-21, section 6, integers and reals): an optional sign, digits, optionally a point and digits,
--- optionally an exponent. Digits may lack behind the point, the point may lack before an exponent, and its E has either case.
+-- optionally an exponent. Digits may lack after the point, the point may lack before an exponent, and its E has either case.
 use Rattle.std.specs.Prelude.{◌≡◌, ℕ, ◌+◌, ◌-◌, ◌<◌, ◌≤◌, ◌==◌, Bool, true, false, if◌then◌else◌, ℤ, pos, ◌-ℤ◌, ◌≤ℤ◌, neg_ℤ, List, [], ◌∷◌, ◌++◌, length, reverse, Option, Some, None, ◌⊎◌}
 use Rattle.std.specs.List.{list_all}
 use Rattle.p21_lexer.specs.Spelling.{is_digit, value_after}
@@ -85,11 +85,11 @@ abbrev pub exponent_of : Option Exponent → ℤ
 exponent_of None = pos 0
 exponent_of (Some e) = signed (is_minus e.sign) (value_after 0 e.digits)
 
--- the digits before and behind the point
+-- the digits before and after the point
 abbrev pub digits_of : Spelling → List ℕ
 digits_of s = s.whole ++ fraction_digits s.fraction
 
--- all digits as one whole number, times ten to the exponent less the number of digits behind the point
+-- all digits as one whole number, times ten to the exponent less the number of digits after the point
 abbrev pub written : Spelling → Scaled
 written s = record {
   number = signed (is_minus s.sign) (value_after 0 (digits_of s));

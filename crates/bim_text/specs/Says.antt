@@ -10,7 +10,7 @@ use Rattle.bim_text.specs.declared.compare.Wanted.TheVariants.{Text, Guid}
 abbrev pub is_guid : List ℕ → Bool
 is_guid text = (length text == 22) && list_all is_guid_char text
 
--- the end of one, behind so many characters
+-- the end of one, after so many characters
 unfoldable pub ends_guid : ℕ → List ℕ → Bool
 ends_guid before text = (before + length text == 22) && list_all is_guid_char text
 
@@ -23,10 +23,10 @@ abbrev pub accepts : Wanted → List ℕ → Bool
 accepts (Text text) more = is_text text.now more
 accepts (Guid before) more = ends_guid before more
 
--- Behind this piece the first test comes to the second.
+-- After this piece the first test comes to the second.
 pub record Leaves (test : List ℕ → Bool) (piece : List ℕ) (left : List ℕ → Bool) : Type 0 where
   pub same : (more : List ℕ) → test (piece ++ more) ≡ left more
 
--- The test fails behind this piece, whatever comes.
+-- The test fails after this piece, whatever comes.
 pub record Lacks (test : List ℕ → Bool) (piece : List ℕ) : Type 0 where
   pub differs : (more : List ℕ) → test (piece ++ more) ≡ false

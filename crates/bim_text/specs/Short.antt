@@ -8,7 +8,7 @@ use Rattle.bim_text.specs.declared.short.ShortRow.{ShortRow}
 use Rattle.bim_text.specs.ScaledNumbers.{Scaled, signed}
 use Rattle.bim_text.specs.NumberSpellings.{Sign, Unsigned, Minus, Spelling, IsRead, written}
 
--- the value of a short number: its digits with its sign, the last of them behind the point
+-- the value of a short number: its digits with its sign, the last of them after the point
 abbrev pub short_value : Short → Scaled
 short_value s = record { number = signed s.negative s.digits; power = pos 0 -ℤ pos s.places }
 

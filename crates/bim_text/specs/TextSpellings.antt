@@ -61,7 +61,7 @@ unfoldable pub is_code : List ℕ → Bool
 is_code bs = slice_index bs 1 == 88 && slice_index bs 2 == 92 && is_hexadecimal (slice_index bs 3)
     && is_hexadecimal (slice_index bs 4)
 
--- so many hexadecimal digits, whole groups and at least one, and \X0\ behind them
+-- so many hexadecimal digits, whole groups and at least one, and \X0\ after them
 abbrev pub are_groups : ℕ → ℕ → List ℕ → Bool
 are_groups width digits bs = nat_lt 0 digits && digits % width == 0
     && slice_index bs (digits + 4) == 92 && slice_index bs (digits + 5) == 88

@@ -17,11 +17,11 @@ use crate::spelled_text::are_plain;
 pub enum Wanted<'a> {
     /// These bytes.
     Text(&'a [u8]),
-    /// The end of a globally unique identifier, behind so many of its characters.
+    /// The end of a globally unique identifier, after so many of its characters.
     Guid(usize),
 }
 
-/// What is left of a text behind a piece. None where it doesn't begin with it.
+/// What is left of a text after a piece. None where it doesn't begin with it.
 #[tactic(auto, using(crate::proofs::Saying::pieces))]
 fn text_after<'a>(text: &'a [u8], piece: &[u8]) -> Option<&'a [u8]>
     ensures { MatchOption result (Lacks (is_text text.now) piece.now)
@@ -49,7 +49,7 @@ fn guid_after(before: usize, piece: &[u8]) -> Option<usize>
     Some(before + piece.len())
 }
 
-/// What is wanted behind a piece.
+/// What is wanted after a piece.
 fn after<'a>(wanted: Wanted<'a>, piece: &[u8]) -> Option<Wanted<'a>>
     ensures { MatchOption result (Lacks (accepts wanted.entry) piece.now)
         (λ left. Leaves (accepts wanted.entry) piece.now (accepts left)) }
@@ -66,7 +66,7 @@ fn after<'a>(wanted: Wanted<'a>, piece: &[u8]) -> Option<Wanted<'a>>
     }
 }
 
-/// What is wanted behind a character.
+/// What is wanted after a character.
 fn after_char(wanted: Wanted<'_>, character: char) -> Option<Wanted<'_>>
     ensures { MatchOption result (Lacks (accepts wanted.entry) (encode_utf8 character))
         (λ left. Leaves (accepts wanted.entry) (encode_utf8 character) (accepts left)) }
@@ -87,7 +87,7 @@ fn is_done(wanted: Wanted<'_>) -> bool
     }
 }
 
-/// What is left of a spelled text behind its first row, and what is wanted of that.
+/// What is left of a spelled text after its first row, and what is wanted of that.
 #[derive(Clone, Copy)]
 struct Step<'a> {
     spelled: &'a [u8],
@@ -134,7 +134,7 @@ fn char_step<'a>(
     }
 }
 
-/// What is wanted behind the characters of the groups that follow `\X2\` or `\X4\`.
+/// What is wanted after the characters of the groups that follow `\X2\` or `\X4\`.
 fn after_groups<'a>(spelled: &[u8], wanted: Wanted<'a>, width: usize) -> Option<Wanted<'a>>
     requires width { width ≡ 4 ⊎ width ≡ 8 }
     ensures { MatchOption result (Lacks (accepts wanted.entry) (wide_row width (cleaned spelled.now)).gives)

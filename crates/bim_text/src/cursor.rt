@@ -6,7 +6,7 @@ ghost use Rattle.p21_lexer.specs.Spelling.{run};
 use crate::byte_classes::is_hexadecimal;
 use crate::spelled_text::next_place;
 
-/// The first byte that is kept, and what is spelled behind it.
+/// The first byte that is kept, and what is spelled after it.
 #[derive(Clone, Copy)]
 pub struct KeptByte<'a> {
     pub byte: u8,
@@ -34,7 +34,7 @@ pub fn first_kept(spelled: &[u8]) -> Option<KeptByte<'_>>
     None
 }
 
-/// What is spelled behind so many bytes that are kept.
+/// What is spelled after so many bytes that are kept.
 #[tactic(auto, using(crate::proofs::Keeping::skips))]
 pub fn skip(spelled: &[u8], count: usize) -> &[u8]
     ensures rest { cleaned result.now ≡ drop count (cleaned spelled.now) }

@@ -15,7 +15,7 @@ pub struct Digits {
     pub all: u128,
     /// The number that they write up to the last that isn't 0.
     pub significand: u128,
-    /// How many zeros stand behind that one.
+    /// How many zeros stand after that one.
     pub zeros: u32,
 }
 
@@ -85,7 +85,7 @@ pub struct Few {
     pub zeros: u32,
 }
 
-/// From here on digits are put behind one another in 128 bits.
+/// From here on digits are put after one another in 128 bits.
 const MANY: u64 = 1_000_000_000_000_000_000;
 
 /// Few digits, and the place of the next byte.
@@ -132,7 +132,7 @@ impl Few {
     }
 }
 
-/// The digits from a place on, behind few others, as far as they fit 64 bits.
+/// The digits from a place on, after few others, as far as they fit 64 bits.
 #[tactic(auto, using(crate::proofs::Fronts::fronts))]
 fn scan_few(text: &[u8], from: usize, before: Few) -> FewScanned
     requires place { from ≤ length text.now }
@@ -154,7 +154,7 @@ fn scan_few(text: &[u8], from: usize, before: Few) -> FewScanned
     FewScanned { digits, end: at }
 }
 
-/// The digits from a place on, behind others. None where they are too many. As long as they fit, they are put together in 64 bits.
+/// The digits from a place on, after others. None where they are too many. As long as they fit, they are put together in 64 bits.
 pub fn scan(text: &[u8], from: usize, before: Digits) -> Option<Scanned>
     requires place { from ≤ length text.now }
     requires short { length text.now ≤ MOST_UPLOAD }

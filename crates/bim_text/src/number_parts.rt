@@ -30,7 +30,7 @@ pub fn is_minus_at(text: &[u8], from: usize) -> bool
     from < text.len() && text[from] == b'-'
 }
 
-/// Digits with those behind a point, how many of these there are, and where they end.
+/// Digits with those after a point, how many of these there are, and where they end.
 #[derive(Clone, Copy)]
 pub struct Fraction {
     pub digits: Digits,

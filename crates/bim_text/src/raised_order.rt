@@ -1,4 +1,4 @@
-//! The order of numbers with zeros behind them.
+//! The order of numbers with zeros after them.
 ghost use Rattle.std.specs.Prelude.{◌≡◌, ◌*◌, ◌^◌, ◌<◌};
 ghost use Rattle.std.specs.Ordering.{nat_cmp};
 ghost use Rattle.bim_text.specs.declared.limits.TheConstants.{MOST_DIGITS};
@@ -6,7 +6,7 @@ ghost use Rattle.bim_text.specs.declared.limits.TheConstants.{MOST_DIGITS};
 use crate::limits::MOST_DIGITS;
 use std::cmp::Ordering;
 
-/// The order of a number with so many zeros behind it and another, which doesn't have too many digits.
+/// The order of a number with so many zeros after it and another, which doesn't have too many digits.
 #[tactic(auto, using(crate::proofs::Quotients::quotients))]
 pub fn order_raised(digits: u128, zeros: u64, other: u128) -> Ordering
     requires some { 0 < digits }

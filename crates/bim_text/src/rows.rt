@@ -146,7 +146,7 @@ fn sequence(rest: &[u8]) -> Option<&str>
     str::from_utf8(&rest[..size]).ok()
 }
 
-/// Appends the character that a byte from 128 on begins or is, and tells how many bytes it takes.
+/// Appends the character that a byte from 128 on begins or is, and says how many bytes it takes.
 fn push_high(out: &mut String, rest: &[u8]) -> Result<usize, AllocError>
     requires { 0 < length rest.now }
     ensures bytes { OnOk result (string_bytes out.new ≡ string_bytes out.old ++ (high_row rest.now).gives) }
@@ -164,7 +164,7 @@ fn push_high(out: &mut String, rest: &[u8]) -> Result<usize, AllocError>
     }
 }
 
-/// Appends what the row at the front gives, and tells how many bytes it is.
+/// Appends what the row at the front gives, and says how many bytes it is.
 #[tactic(auto, unfolding(crate::specs::TextSpellings::row_of))]
 pub fn push_row(out: &mut String, rest: &[u8]) -> Result<usize, AllocError>
     requires some { 0 < length rest.now }

@@ -8,20 +8,20 @@ ghost use Rattle.bim_text.specs.Short.{EndsAt, IsShortAt, IsRowAt, sign_of};
 
 use crate::digits::is_digit;
 
-/// A number of few digits without exponent: its digits as one whole number, how many of them stand behind the point, and where it ends.
+/// A number of few digits without exponent: its digits as one whole number, how many of them stand after the point, and where it ends.
 #[derive(Clone, Copy)]
 pub struct Short {
     /// Whether a minus stands before it.
     pub negative: bool,
     /// All its digits, below 10^15.
     pub digits: u64,
-    /// How many of them stand behind the point, at most 15.
+    /// How many of them stand after the point, at most 15.
     pub places: u32,
-    /// The place behind it.
+    /// The place after it.
     pub end: usize,
 }
 
-/// Three such numbers between parentheses, and the place behind the closing one.
+/// Three such numbers between parentheses, and the place after the closing one.
 #[derive(Clone, Copy)]
 pub struct ShortRow {
     pub x: Short,
@@ -30,21 +30,21 @@ pub struct ShortRow {
     pub end: usize,
 }
 
-/// Digits behind others, and where they end.
+/// Digits after others, and where they end.
 #[derive(Clone, Copy)]
 struct Run {
     value: u64,
     end: usize,
 }
 
-/// A sign that was read, and the place behind it.
+/// A sign that was read, and the place after it.
 #[derive(Clone, Copy)]
 struct Signed {
     negative: bool,
     end: usize,
 }
 
-/// The digits that stand there, behind others, up to a limit.
+/// The digits that stand there, after others, up to a limit.
 #[inline(always)]
 #[tactic(auto, using(crate::proofs::Rooms::digits))]
 fn run_from(bytes: &[u8], from: usize, limit: usize, before: u64) -> Run
@@ -70,7 +70,7 @@ fn run_from(bytes: &[u8], from: usize, limit: usize, before: u64) -> Run
     Run { value, end: at }
 }
 
-/// The place behind which no digit of a fraction is read, so that it has 15 with those of the whole part, which don't count where that is 0.
+/// The place after which no digit of a fraction is read, so that it has 15 with those of the whole part, which don't count where that is 0.
 #[inline(always)]
 #[tactic(auto, using(crate::proofs::Rooms::rooms))]
 fn fraction_limit(from: usize, whole: Run) -> usize
@@ -121,7 +121,7 @@ fn minus_there(bytes: &[u8], from: usize) -> Signed
     }
 }
 
-/// The number that stands there, where it is short and a comma or a closing parenthesis stands right behind it. None says nothing.
+/// The number that stands there, where it is short and a comma or a closing parenthesis stands right after it. None says nothing.
 #[inline(always)]
 #[tactic(auto, using(crate::proofs::Rooms::rooms))]
 pub fn short_at(bytes: &[u8], from: usize) -> Option<Short>

@@ -33,7 +33,7 @@ fn small_digits(text: &[u8]) -> Option<Small>
     Some(Small { value, end: at })
 }
 
-/// The whole number that bytes spell by digits alone, or by digits with a point behind them. None says nothing: the bytes may spell any
+/// The whole number that bytes spell by digits alone, or by digits with a point after them. None says nothing: the bytes may spell any
 /// number.
 pub fn small_whole(text: &[u8]) -> Option<u64>
     ensures writes { IfSome result (λ n. WritesWhole text.now (pos n)) }

@@ -36,7 +36,7 @@ fn plain_end(bytes: &[u8], from: usize) -> usize
     at
 }
 
-/// The place behind a byte, or behind the second of two apostrophes.
+/// The place after a byte, or after the second of two apostrophes.
 #[tactic(auto, using(crate::proofs::Cleaning::cleanings))]
 pub fn next_place(spelled: &[u8], at: usize) -> usize
     requires { at < length spelled.now }
@@ -70,7 +70,7 @@ fn clean(alloc: Global, spelled: &[u8]) -> Result<Vec<u8>, AllocError>
     Ok(bytes)
 }
 
-/// Appends what the row at a place gives, and tells where it ends.
+/// Appends what the row at a place gives, and says where it ends.
 fn push_row_at(out: &mut String, bytes: &[u8], at: usize) -> Result<usize, AllocError>
     requires place { at < length bytes.now }
     requires short { length bytes.now < 2 ^ 63 }

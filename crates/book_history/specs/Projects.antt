@@ -46,7 +46,7 @@ next_content content (change.Remove name) =
 next_content content (change.SetRules rules weight) = Some (record { models = content.models; rules = rules })
 next_content content _ = None
 
--- a version is added behind the newest
+-- a version is added after the newest
 abbrev pub with_version : ProjectState → Version → ProjectState
 with_version project content = record {
   board = project.board;

@@ -22,7 +22,7 @@ CallsTeach =
     → KeepsNumbers v w → IsAnswered settings request turn reply v w
     → TakesCall settings request turn reply (caller_of v) (caller_of w)
 
--- a call that is not answered for want of memory takes its turn and adds nothing
+-- a call that is not answered out of memory takes its turn and adds nothing
 abbrev pub IdleTurnsTeach : Type 0
 IdleTurnsTeach =
     (v w : BookPass) → KeepsNumbers v w → IsIdle v w

@@ -80,8 +80,8 @@ pub record TakesTurn (turn : ℕ) (others added : List Entry) (v w : CallerSeen)
   pub not_own : own_of v others ≡ []
   pub in_turn : AllOf turn added
 
--- A caller came to see these entries behind those that it had seen. They are of later turns than its last. Where it had
--- seen none of a turn behind its last, it has seen none so now.
+-- A caller came to see these entries after those that it had seen. They are of later turns than its last. Where it had
+-- seen none of a turn after its last, it has seen none so now.
 pub record Learns (v w : CallerSeen) (news : List Entry) : Type 0 where
   pub keeps : Keeps v w
   pub seen : w.seen ≡ v.seen ++ news

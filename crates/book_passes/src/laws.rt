@@ -6,7 +6,7 @@ pub fn calls_teach()
     ensures { CallsTeach }
 {}
 
-/// A call that meets want of memory takes a turn and adds nothing.
+/// A call that runs out of memory takes a turn and adds nothing.
 pub fn idle_turns_teach()
     ensures { IdleTurnsTeach }
 {}

@@ -341,7 +341,7 @@ memory_alone NoTopic refusal is none = cc
 memory_alone NoComment refusal is none = cc
 memory_alone Memory refusal is none = refl
 
--- .. so that want of memory is their one error
+-- .. so that out of memory is their one error
 pub answered_memory : (r : Result (Unit {0}) TopicError) (error : TopicError) (refusal : Option TopicError) → IsAnswer r refusal → refusal ≡ None → r ≡ Err error → error ≡ Memory
 answered_memory r error refusal is none told = memory_alone error refusal (rw told at is) none
 

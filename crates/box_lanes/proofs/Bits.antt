@@ -34,7 +34,7 @@ mask_take (b ∷ bs) zero = mod-one (mask_l (b ∷ bs))
 mask_take (b ∷ bs) (suc n) =
     ap (λ m. (cond b 1 0 + 2 * mask_l bs) % m) (pow-suc 2 n) ∙ split (cond b 1 0) (mask_l bs) (2 ^ n) (pow_pos n) (bit b) ∙ ap (λ m. cond b 1 0 + 2 * m) (mask_take bs n)
 
--- the bits behind the first k
+-- the bits after the first k
 mask_drop : (bs : List Bool) (k : ℕ) → mask_l bs / 2 ^ k ≡ mask_l (drop k bs)
 mask_drop [] zero = refl
 mask_drop [] (suc k) = zero-div (2 ^ suc k)

@@ -87,7 +87,7 @@ pub padded_bits : (p : Extent → Bool) (boxes : List Extent) (n : ℕ) → n �
 padded_bits p boxes n h k = mask_take (map p (padded 8 boxes)) n ∙ ap mask_l (take-map p n (padded 8 boxes)) ∙ ap (λ l. mask_l (map p l)) (front_padded 8 n boxes h k)
 
 -- ---- blocks
--- the boxes of the blocks, and those behind them
+-- the boxes of the blocks, and those after them
 glued_blocks : (blocks : List Block) (boxes : List Extent) → AreBlocks blocks boxes → take (length boxes) (flat_map boxes_in_block blocks) ≡ boxes
 glued_blocks [] boxes e = subst (λ (l : List Extent). take (length l) [] ≡ l) (sym e) refl
 glued_blocks (b ∷ blocks) boxes (h, t) =

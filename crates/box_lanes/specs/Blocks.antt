@@ -45,7 +45,7 @@ pub record IsBlock (block : Block) (boxes : List Extent) : Type 0 where
   pub coarse_is : block.coarse ≡ coarse_lists boxes
   pub fits : All Fits32 boxes
 
--- the first n boxes, with others behind where there are fewer
+-- the first n boxes, with others after where there are fewer
 abbrev pub padded : ℕ → List Extent → List Extent
 padded zero boxes = []
 padded (suc n) [] = nowhere ∷ padded n []

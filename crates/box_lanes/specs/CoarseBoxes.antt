@@ -5,7 +5,7 @@ use Rattle.bim_model.specs.declared.geometry.Extent.{Extent}
 use Rattle.box_lanes.specs.declared.reach.Reach.{Reach}
 use Rattle.box_lanes.specs.declared.reach.Rough.{Rough}
 
--- on each axis the box begins at the reach's end or before it, and ends, or begins, at its start or behind it
+-- on each axis the box begins at the reach's end or before it, and ends, or begins, at its start or after it
 abbrev pub meets : Reach → Extent → Bool
 meets reach box =
     ((int_le box.low.x reach.high.x && int_le reach.low.x (cond reach.later_x box.low.x box.high.x))

@@ -9,7 +9,7 @@ ghost use Rattle.box_lanes.specs.CoarseBoxes.{meets, may_meet, IsRough, Fits32};
 
 use crate::blocks::{Block, LANES, fill, fill_by};
 use crate::reach::{Reach, Rough, reach_of, rough_of};
-use bim_model::{Extent, Point};
+use bim_model::{Extent, Point, know};
 use std::alloc::{AllocError, Global};
 use std::marker::Model;
 use std::simd::prelude::*;
@@ -17,7 +17,7 @@ use std::simd::prelude::*;
 /// A list of boxes, in which those near a box are found eight at a time.
 #[derive(Drop)]
 pub struct BoxTable {
-    // The boxes, and behind them so many others that all are a multiple of eight.
+    // The boxes, and after them so many others that all are a multiple of eight.
     blocks: Vec<Block>,
     count: usize,
 }
@@ -61,7 +61,7 @@ impl BoxTable {
     }
 
     /// The boxes at these places, of which there are fewer than 2^32, in place of the boxes before. The room is
-    /// used again. An error where memory is wanting, which leaves no boxes.
+    /// used again. An error if memory runs out, which leaves no boxes.
     pub fn refill(&mut self, boxes: &[Extent], places: &[u32]) -> Result<(), AllocError>
         requires within { All (λ n. n < length boxes.now) places.now }
         requires few { length places.now < 2 ^ 32 }
@@ -92,7 +92,7 @@ impl BoxTable {
     }
 
     /// The places, from 0 and rising, of the boxes whose gap to the probe is at most `grow` grid numbers on each
-    /// axis. Coordinates and `grow` may be any. An error where memory is wanting.
+    /// axis. Coordinates and `grow` may be any. An error if memory runs out.
     pub fn within(&self, alloc: Global, probe: &Extent, grow: u32) -> Result<Vec<u32>, AllocError>
         ensures { IfOk result (λ places. places.items ≡ places_within probe.now grow self.now) }
     {
@@ -102,14 +102,14 @@ impl BoxTable {
             z: i32::MIN,
         };
         let reach = reach_of(probe, grow, &start);
-        let _count = self.len();
+        know(self.len());
         let mut places = Vec::new(alloc);
         self.add_from(0, &reach, &mut places)?;
         Ok(places)
     }
 
-    /// The same of the boxes behind the place `first` alone, as the only places of the list, and on each axis only
-    /// where the later of the box and the probe begins at `start` or behind it. An error where memory is wanting,
+    /// The same of the boxes after the place `first` alone, as the only places of the list, and on each axis only
+    /// where the later of the box and the probe begins at `start` or after it. An error if memory runs out,
     /// which leaves some of them.
     pub fn later_within(
         &self,
@@ -138,7 +138,7 @@ impl BoxTable {
         ensures { OnOk result (places.new.items
             ≡ places.old.items ++ places_from from (meets reach.now) (drop from self.now)) }
     {
-        let _count = self.len();
+        know(self.len());
         if from == self.count {
             return Ok(());
         }
@@ -170,7 +170,7 @@ impl BoxTable {
         ensures { OnOk result (places.new.items ≡ places.old.items
             ++ part (meets reach.now) self.now from (min (block * 8 + 8) (length self.now))) }
     {
-        let _count = self.len();
+        know(self.len());
         let lanes = self.coarse_lanes(block * LANES, reach, rough) >> (from % LANES);
         if lanes == 0 {
             return Ok(());
@@ -228,7 +228,7 @@ impl BoxTable {
     }
 
     /// A bit for each of the eight boxes from `at` on, the first the lowest: whether the box meets `reach`. Bits of
-    /// boxes behind the table's may be any.
+    /// boxes after the table's may be any.
     #[inline(always)]
     fn lanes(&self, at: usize, reach: &Reach) -> u64
         requires within { at < length self.now }
@@ -236,7 +236,7 @@ impl BoxTable {
         ensures { (n : ℕ) → n ≤ 8 → at + n ≤ length self.now
             → result % 2 ^ n ≡ mask_l (map (meets reach.now) (take n (drop at self.now))) }
     {
-        let _blocks = self.blocks.as_slice();
+        know(self.blocks.as_slice());
         let block = &self.blocks[at / LANES];
         let far_x = far_lane(reach.later_x, &block.low_x, &block.high_x);
         let far_y = far_lane(reach.later_y, &block.low_y, &block.high_y);
@@ -251,7 +251,7 @@ impl BoxTable {
     }
 
     /// A bit for each of the eight boxes from `at` on, the first the lowest: whether the box meets `reach` in steps
-    /// of 256, in which it is `rough`. Bits of boxes behind the table's may be any.
+    /// of 256, in which it is `rough`. Bits of boxes after the table's may be any.
     #[inline(always)]
     fn coarse_lanes(&self, at: usize, reach: &Reach, rough: &Rough) -> u64
         requires within { at < length self.now }
@@ -260,8 +260,8 @@ impl BoxTable {
         ensures { (n : ℕ) → n ≤ 8 → at + n ≤ length self.now
             → result % 2 ^ n ≡ mask_l (map (may_meet reach.now) (take n (drop at self.now))) }
     {
-        let _reach = *reach;
-        let _blocks = self.blocks.as_slice();
+        know(*reach);
+        know(self.blocks.as_slice());
         let block = &self.blocks[at / LANES].coarse;
         let sides = &rough.sides;
         let x = i16x8::from_array(block[0]).simd_le(i16x8::splat(sides[3]))

@@ -27,7 +27,7 @@ fn is_within(probe: &Extent, grow: u32, extent: &Extent) -> bool
 }
 
 /// The places, from 0 and rising, of the boxes whose gap to the probe is at most `grow` grid numbers on each axis,
-/// box by box. There are fewer than 2^32 boxes. An error where memory is wanting.
+/// box by box. There are fewer than 2^32 boxes. An error if memory runs out.
 pub fn places_within(
     alloc: Global,
     boxes: &[Extent],

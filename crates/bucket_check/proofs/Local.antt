@@ -35,7 +35,7 @@ mapped f xs x c =
     let l : c.0 < length (map f xs) = omega (arith, c.1, length-map xs f) in
     (c.0, l, get_or-map f xs c.0 x (f x) c.1 ∙ ap f c.2)
 
--- the item behind one of a list that was made
+-- the item after one of a list that was made
 record From {X Y : Type 0} (f : X → Y) (xs : List X) (y : Y) : Type 0 where
   item : X
   is_in : Contains xs item

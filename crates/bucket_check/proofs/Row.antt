@@ -61,7 +61,7 @@ pub later_is : (p : Extent → Bool) (xs : List Extent) (s n : ℕ) → n ≤ le
 later_is p xs s zero h = part_none p xs s zero (omega arith)
 later_is p xs s (suc n) h = later_more p xs s n (omega arith) (later_is p xs s n (omega arith)) (cases_lt n s)
 
--- the places behind one that the filter gives
+-- the places after one that the filter gives
 later_listed : (start : Point) (grow : ℕ) (probe : Extent) (first : ℕ) (table : List Extent)
     → later_within start grow probe first table ≡ filter (λ k. leb (first + 1) k && is_within_from start grow probe (box_at table k)) (upto (length table))
 later_listed start grow probe first table =

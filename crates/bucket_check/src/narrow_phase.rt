@@ -16,7 +16,9 @@ use crate::bucket_work::BucketWork;
 use crate::pair::SetPair;
 use crate::room::Room;
 use crate::set::BucketSet;
-use bim_model::{Element, Found, Items, Meeting, Point, Shared, Steps, greatest_distance, rule_of};
+use bim_model::{
+    Element, Found, Items, Meeting, Point, Shared, Steps, greatest_distance, know, rule_of,
+};
 use bucket_grid::{Cell, Grid, owner_of, start_of};
 use clearance::solids_near;
 use std::alloc::{AllocError, Global};
@@ -78,7 +80,7 @@ fn clash_of<L: Ledger>(grid: &Grid, a: u32, b: u32, steps: &mut Steps<L>) -> Opt
         result ≡ clash_of grid.now.version.rules (subject_at subjects a) (subject_at subjects b) }
     ensures steps { steps.new ≤ steps.old + 1 }
 {
-    let _boxes = grid.boxes();
+    know(grid.boxes());
     let first = grid.element(a as usize);
     let second = grid.element(b as usize);
     let same_model = grid.same_model(a as usize, b as usize);
@@ -231,7 +233,7 @@ fn own_places<L: Ledger>(
     ensures steps { let m = length (members grid.now.boxes cell) in
         2 * steps.new ≤ 2 * steps.old + m * (m - 1) }
 {
-    let _boxes = grid.boxes();
+    know(grid.boxes());
     let members = grid.members_in_turn(cell, &mut room.next);
     found_among(alloc, grid, cell, members, room, steps)
 }

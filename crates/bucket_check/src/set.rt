@@ -6,7 +6,7 @@ ghost use Rattle.bucket_check.specs.ClashSets.{own_places, pair_at, IsUnmoved};
 
 use crate::bucket_work::BucketWork;
 use crate::pair::SetPair;
-use bim_model::{Items, Shared};
+use bim_model::{Items, Shared, know};
 use std::alloc::AllocError;
 use std::marker::Model;
 
@@ -54,8 +54,8 @@ impl BucketSet {
         ensures owned { map (pair_at (members self.now.work.grid.boxes self.now.work.cell)) result.now
             ≡ own_clashes self.now.work.grid.version self.now.work.grid.boxes self.now.work.cell }
     {
-        let _rules = self.work.grid.get().rules();
-        let _boxes = self.work.grid.get().boxes();
+        know(self.work.grid.get().rules());
+        know(self.work.grid.get().boxes());
         self.pairs.get().as_slice()
     }
 
@@ -68,8 +68,8 @@ impl BucketSet {
         ensures pairs { IfOk result (λ set. set.pairs ≡ self.now.pairs) }
         ensures found { IfOk result (λ set. set.pairs ≡ own_places work.grid work.cell) }
     {
-        let _before = self.work.grid.get().boxes();
-        let _after = work.grid.get().boxes();
+        know(self.work.grid.get().boxes());
+        know(work.grid.get().boxes());
         let pairs = self.pairs.share()?;
         Ok(BucketSet::of(work, pairs))
     }

@@ -7,7 +7,7 @@ use Rattle.std.proofs.lemmas.List.{get_or_default}
 use Rattle.box_lanes.specs.BoxPlaces.{places_from}
 use Rattle.box_lanes.proofs.Places.{places-cons}
 
--- a number is listed, at the front or behind it
+-- a number is listed, at the front or after it
 head_listed : (b : Bool) (n : ℕ) (rest : List ℕ) → b ≡ true → Contains (cond b (n ∷ rest) rest) n
 head_listed true n rest e = (0, omega arith, refl)
 head_listed false n rest e = absurd (true≢false (sym e))

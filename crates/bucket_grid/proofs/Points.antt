@@ -21,7 +21,7 @@ starts (negsuc a) = omega (arith, ints)
 saturated : (x l : ℤ) → SFits w32 l → x ≤ℤ l → saturate_signed w32 x ≤ℤ l
 saturated x l L h = grind (arith, ints)
 
--- a low side begins at the least one of its first cell, or behind it
+-- a low side begins at the least one of its first cell, or after it
 pub first_low_at_most : (low i : ℤ) → SFits w32 low → first_cell low ≡ i → first_low i ≤ℤ low
 first_low_at_most low i L e =
     let there : (i *ℤ SIDE) ≤ℤ (low -ℤ GROWTH) = subst (λ c. (c *ℤ SIDE) ≤ℤ (low -ℤ GROWTH)) e (starts (low -ℤ GROWTH)) in

@@ -25,7 +25,7 @@ use crate::cell::{Cell, MOST_CELLS};
 use crate::owner::shared_cell;
 use crate::search::{place_by, place_of};
 use crate::subjects::{Gathered, Member, gather};
-use bim_model::{Element, Extent, NamedModel, Rules, Shared, Snapshot};
+use bim_model::{Element, Extent, NamedModel, Rules, Shared, Snapshot, know};
 use std::alloc::{AllocError, Global};
 use std::marker::Model;
 
@@ -164,7 +164,7 @@ fn buckets_of(
 
 impl Grid {
     /// The grid of a version of at most 1,000,000 elements. `TooSpread` where its memberships exceed 2,000,000:
-    /// they are counted first, and then nothing is placed. `Memory` where memory is wanting.
+    /// they are counted first, and then nothing is placed. `Memory` if memory runs out.
     pub fn of(alloc: Global, snapshot: Shared<Snapshot>) -> Result<Grid, GridError>
         requires { length (subjects_of snapshot.models) ≤ MOST_ELEMENTS }
         ensures version { IfOk result (λ made. made.version ≡ snapshot) }
@@ -211,7 +211,7 @@ impl Grid {
         ensures rules { IsRules result.now }
     {
         let rules = self.snapshot.get().rules();
-        let _list = rules.list();
+        know(rules.list());
         rules
     }
 
@@ -279,7 +279,7 @@ impl Grid {
         ensures { let subjects = subjects_of self.now.version.models in
             result ≡ bytes_eq (subject_at subjects a).name (subject_at subjects b).name }
     {
-        let _models = self.models();
+        know(self.models());
         self.model_of(a) == self.model_of(b)
     }
 }

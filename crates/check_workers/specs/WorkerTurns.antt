@@ -46,7 +46,7 @@ abbrev pub AreMadeBy : ℕ → List Entry → Type 0
 AreMadeBy number [] = Unit {0}
 AreMadeBy number (e ∷ es) = (e.stamp.pass ≡ number) × AreMadeBy number es
 
--- What a pass had seen is a front of what it has seen. Of the entries behind that front, those that it made, or a pass
+-- What a pass had seen is a front of what it has seen. Of the entries after that front, those that it made, or a pass
 -- that was joined into it, carry its own number and say that buckets are checked, and nothing else.
 pub record Teaches (v w : CallerSeen) : Type 0 where
   pub news : List Entry

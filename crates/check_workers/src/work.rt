@@ -66,7 +66,7 @@ fn told_by(reply: ReplyBody) -> Worked
 /// Takes a bucket out at one turn, the one of the seat's number among those that are to be checked, counted round and
 /// round; checks it; and brings the set at a later turn. Whatever came between, the set is what the bucket owns in the
 /// version that it was taken out of. `idle` says whether the role's last call found nothing to do. The gate is asked
-/// before each of the two calls. An `Err` is that of a call, or want of memory for the check; then the bucket is given
+/// before each of the two calls. An `Err` is that of a call, or out of memory for the check; then the bucket is given
 /// out again.
 pub fn work_one<R: Wait, G: Gate>(
     rt: &R,
@@ -96,7 +96,7 @@ pub fn work_one<R: Wait, G: Gate>(
     Ok(told_by(receipt.reply.body))
 }
 
-// Whether memory was wanting.
+// Whether memory ran out.
 fn is_memory(fault: &CallFault) -> bool {
     match fault {
         CallFault::Memory => true,
@@ -105,7 +105,7 @@ fn is_memory(fault: &CallFault) -> bool {
 }
 
 /// Works bucket after bucket until, after the gate was closed, none is to be checked: then no bucket of a live version
-/// is undone in what the pass has seen. Where memory is wanting before the gate is closed, it goes on with the next bucket
+/// is undone in what the pass has seen. If memory runs out before the gate is closed, it goes on with the next bucket
 /// after a while: that one may take less, and what took the memory may be gone when it comes to this one again.
 pub fn work_loop<R: Wait, G: Gate>(
     rt: &R,

@@ -10,6 +10,7 @@ ghost use Rattle.check_workers.specs.WorkerTurns.{Teaches};
 ghost use Rattle.check_workers.specs.Joins.{IsNewWorker, WorkerOver, HasEach, ExtendsByWork, nothing_lacked, lacked_by, first_spent};
 
 use crate::work::work_loop;
+use bim_model::know;
 use bim_net::Gate;
 use book_turn::call_fault::{CallFault, SpentPass};
 use book_turn::pass::Pass;
@@ -24,7 +25,7 @@ use std::thread::{Threads, for_each_mut};
 /// What kept work from being done.
 #[derive(Drop)]
 pub struct Lack {
-    /// Whether memory was wanting.
+    /// Whether memory ran out.
     pub memory: bool,
     /// A pass that had made all its turns.
     pub spent: Option<SpentPass>,
@@ -172,7 +173,7 @@ pub fn make_workers(
     ensures count { IfOk result (λ ws. vec_len ws ≡ count) }
     ensures others { OnOk result (passes.new.items ≡ new_passes turn.now 0 first) }
 {
-    let _turn = turn;
+    know(turn);
     let mut workers = Vec::with_capacity(alloc, count as usize)?;
     for seat in 0..count {
         let Some(pass) = passes.pop() else {
@@ -187,7 +188,7 @@ pub fn make_workers(
     Ok(workers)
 }
 
-/// Joins the passes of all workers into one, and tells what kept them from working.
+/// Joins the passes of all workers into one, and says what kept them from working.
 pub fn join_workers(turn: &Turn<Book>, into: &mut Pass<Book>, workers: Vec<Worker>) -> Lack
     requires own { BelongsTo turn.now into.old }
     requires up_to { AllBefore turn_of (into.old.last + 1) into.old.seen }

@@ -30,7 +30,7 @@ pub record IsChecked (version : Version) : Type 0 where
   pub few : element_count version ≤ MOST_VERSION_ELEMENTS
   pub near : (count : ℕ) → HasMemberships version count → count ≤ MOST_MEMBERSHIPS
 
--- its fault, or want of memory
+-- its fault, or out of memory
 abbrev pub IsVersionCause : Version → VersionError → Type 0
 IsVersionCause version (Fault fault) = IsVersionFault version fault
 IsVersionCause version Memory = ⊤

@@ -89,7 +89,7 @@ fn error_of(error: GridError) -> VersionError
 }
 
 /// The clashes of a version. It is refused where it has over 100,000 elements, or else over 2,000,000 pairs
-/// of a cell of its grid and a member. An error also where memory is wanting.
+/// of a cell of its grid and a member. An error also if memory runs out.
 pub fn clashes_of(alloc: Global, version: Shared<Snapshot>) -> Result<Published, VersionError>
     ensures version { IfOk result (λ made. made ≡ version) }
     ensures checked { IfOk result (λ _. IsChecked version) }

@@ -15,7 +15,7 @@ use crate::equal_rules::same_rules;
 use crate::former_numbers::numbers_before;
 use crate::progress::Progress;
 use crate::slot::Slot;
-use bim_model::Shared;
+use bim_model::{Shared, know};
 use bucket_check::{BucketSet, BucketWork};
 use bucket_grid::{Bucket, Cell, Grid};
 use std::alloc::{AllocError, Global};
@@ -78,9 +78,9 @@ fn is_unmoved(
     requires members { bucket.now.members ≡ members after.now.boxes bucket.now.cell }
     ensures { IsTrue result ↔ IsUnmovedAt before.now after.now place bucket.now.cell }
 {
-    let _models = before.models();
-    let _boxes = before.boxes();
-    let _others = after.boxes();
+    know(before.models());
+    know(before.boxes());
+    know(after.boxes());
     let buckets = before.buckets();
     if place >= buckets.len() {
         return false;
@@ -135,7 +135,7 @@ fn moved_if_done(
     requires unmoved { IsUnmoved before.now after.now cell }
     ensures { IfOk result (IsCarriedTo done.now before.now after.now version cell) }
 {
-    let _buckets = before.buckets();
+    know(before.buckets());
     match &done.slots()[place].set {
         Some(set) => Ok(Some(moved(alloc, set.get(), after, version)?)),
         None => Ok(None),
@@ -160,7 +160,7 @@ fn carried_set(
     requires reached { IsReachedCell before.now.buckets bucket.now.cell place }
     ensures { IfOk result (IsCarriedTo done.now before.now after.now version bucket.now.cell) }
 {
-    let _buckets = before.buckets();
+    know(before.buckets());
     if is_unmoved(before, place, after.get(), bucket, numbers) {
         moved_if_done(alloc, done, before, place, after, version, bucket.cell)
     } else {
@@ -170,7 +170,7 @@ fn carried_set(
 
 /// The progress of a version's grid, from that of the version before. A bucket is done exactly where it was done
 /// before, its members have the same keys, classes, storeys and triangles, and the rules are the same. Its set is
-/// that from before, for this version and grid; the list of its pairs is shared. An error where memory is wanting.
+/// that from before, for this version and grid; the list of its pairs is shared. An error if memory runs out.
 pub fn carry(
     alloc: Global,
     done: &Progress,

@@ -6,7 +6,7 @@ ghost use Rattle.bucket_check.specs.ClashSets.{IsSame};
 ghost use Rattle.clash_delta.specs.inner.ElementNumbers.{subjects, subject_of, AllBelow, IsReached, IsNumberBefore, AreNumbersBefore};
 
 use crate::same::is_like;
-use bim_model::NamedModel;
+use bim_model::{NamedModel, know};
 use bucket_grid::{Grid, Member};
 use std::alloc::{AllocError, Global};
 use std::cmp::Ordering;
@@ -74,8 +74,8 @@ fn number_before(before: &Grid, old: usize, after: &Grid, new: usize) -> Option<
     requires new { new < length after.now.places }
     ensures { IsNumberBefore (subjects before.now) (subject_of after.now new) result }
 {
-    let _models = before.models();
-    let _boxes = before.boxes();
+    know(before.models());
+    know(before.boxes());
     if old < before.places().len() && is_same(before, old, after, new) {
         Some(old as u32)
     } else {
@@ -92,7 +92,7 @@ pub fn numbers_before(
     ensures { IfOk result (λ numbers. AreNumbersBefore (subjects before.now)
         (subjects after.now) numbers.items) }
 {
-    let _models = after.models();
+    know(after.models());
     let count = after.places().len();
     let mut numbers = Vec::with_capacity(alloc, count)?;
     let mut old = 0;

@@ -12,7 +12,7 @@ ghost use Rattle.clash_delta.specs.declared.slot.Slot.{Slot};
 ghost use Rattle.clash_delta.specs.declared.progress.PutAnswer.TheVariants.{Taken, AlreadyDone};
 
 use crate::slot::Slot;
-use bim_model::Shared;
+use bim_model::{Shared, know};
 use bucket_check::BucketSet;
 use bucket_grid::{Bucket, Cell, Grid};
 use std::alloc::{AllocError, Global};
@@ -119,7 +119,7 @@ impl Progress {
         ensures left { result ≡ Taken → length (undone_cells self.new) + 1 ≡ length (undone_cells self.old) }
         ensures of { (grid : GridValue) → IsOf grid self.old → set.work.grid ≡ grid → IsOf grid self.new }
     {
-        let _pairs = set.get().pairs();
+        know(set.get().pairs());
         match self.place_of(set.get().work().cell) {
             Some(place) if self.slots[place].set.is_none() => {
                 self.fill(place, set);

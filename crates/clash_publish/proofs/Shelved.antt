@@ -116,7 +116,7 @@ put_over entries new i project version set_now old made h is hit before e f p v 
         let past = find_past (is_of p v) entries i old made h is (same_key old project version hit p v ∙ q) (same ∙ q) in
         ap (λ l. set_of l p v) f ∙ ap (option_map (λ (e : Entry). e.set)) past ∙ ap (λ c. cond c (Some set_now) (set_of entries p v)) (sym q)
 
--- a set is put behind the others, where none is of its version
+-- a set is put after the others, where none is of its version
 pub put_behind : (entries new : List Entry) (project version : ℕ) (set_now : Version) → ((k : ℕ) (d : Entry) → k < length entries → is_of project version (get_or entries k d) ≡ false)
     → new ≡ entries ++ record { project = project; version = version; set = set_now } ∷ []
     → (p v : ℕ) → set_of new p v ≡ cond (eqb project p && eqb version v) (Some set_now) (set_of entries p v)

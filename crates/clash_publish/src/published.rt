@@ -8,7 +8,7 @@ ghost use Rattle.clash_publish.specs.Listed.{IsClash, element_of, distance_at};
 ghost use Rattle.clash_publish.specs.Merged.{AreSetsOf};
 
 use crate::merge::merged;
-use bim_model::{Distance, Element, RuleKind, Shared, Snapshot};
+use bim_model::{Distance, Element, RuleKind, Shared, Snapshot, know};
 use bucket_check::{BucketSet, SetPair};
 use bucket_grid::Grid;
 use std::alloc::{AllocError, Global};
@@ -36,7 +36,7 @@ impl Model for Published {
 
 impl Published {
     /// The clashes of the grid's version, of the sets of its buckets: one for each, in their order, found in this
-    /// grid. An error where memory is wanting.
+    /// grid. An error if memory runs out.
     pub fn of(
         alloc: Global,
         grid: Shared<Grid>,
@@ -105,7 +105,7 @@ impl Published {
         ensures modelled { IsModelled result.now }
     {
         let grid = self.grid.get();
-        let _places = grid.places();
+        know(grid.places());
         grid.element(number as usize)
     }
 

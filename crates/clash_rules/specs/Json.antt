@@ -145,7 +145,7 @@ rule_in index rule =
     joined index (class_in (codes "a") rule) (class_in (codes "b") rule) (level_in rule) (tests_in rule)
     (distance_in rule)
 
--- a rule and those behind it, or their fault
+-- a rule and those after it, or their fault
 abbrev pub behind : Rule → Result (List Rule) RuleFault → Result (List Rule) RuleFault
 behind rule (Err fault) = Err fault
 behind rule (Ok rules) = Ok (rule ∷ rules)
@@ -186,12 +186,12 @@ if_items (Some items) = rules_of_items items
 unfoldable pub rules_of : Data → Result (List Rule) RuleFault
 rules_of tree = if_items (option_and_then as_array (get (codes "rules") tree))
 
--- the error is the fault that is meant, or want of memory
+-- the error is the fault that is meant, or out of memory
 abbrev pub IsFault : {A : Type 0} → RuleError → Result A RuleFault → Type 0
 IsFault (Fault fault) meant = meant ≡ Err fault
 IsFault Memory meant = ⊤
 
--- the answer is what is meant, or want of memory
+-- the answer is what is meant, or out of memory
 abbrev pub IsReadAs : {A : Type 0} → Result A RuleError → Result A RuleFault → Type 0
 IsReadAs (Ok read) meant = meant ≡ Ok read
 IsReadAs (Err error) meant = IsFault error meant

@@ -19,7 +19,7 @@ some_any P xs i d lt p = (i, slice_index_or xs i d, lt, get_or_default xs i (sli
 pub any_map : {X : Type 0} (P Q : X → Type 0) (xs : List X) → ((x : X) → P x → Q x) → Any P xs → Any Q xs
 any_map P Q xs f (k, x, lt, e, p) = (k, x, lt, e, f x p)
 
--- ---- the first n of a list, and those behind them
+-- ---- the first n of a list, and those after them
 pub by_lt : {P : Type 0} (a b : ℕ) → (a < b → P) → (b ≤ a → P) → P
 by_lt a b f g = by_lt_z (pos a) (pos b) (λ h. f (omega (arith, ints, h))) (λ h. g (omega (arith, ints, h)))
 

@@ -20,7 +20,7 @@ const RUNS: usize = 32;
 /// How many triangles these boxes are for.
 pub const BLOCK: usize = 512;
 
-/// The first n triangles of a list, and those behind them.
+/// The first n triangles of a list, and those after them.
 #[inline(always)]
 pub fn split_front(ts: &[Triangle], n: usize) -> (&[Triangle], &[Triangle])
     ensures front { result.0.now ≡ take n ts.now }

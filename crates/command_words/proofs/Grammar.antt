@@ -21,7 +21,7 @@ false_unless : (b : Bool) → (b ≡ true → ⊥) → b ≡ false
 false_unless true never = absurd (never refl)
 false_unless false never = refl
 
--- a parse that failed for another reason than want of memory
+-- a parse that failed for another reason than out of memory
 pub found_nothing : (command : App) (words : List (List ℕ)) (e : Error) → (takes command words ≡ true → kind_of e ≡ OutOfMemory) → (kind_of e ≡ OutOfMemory → ⊥)
     → IsParse command words None
 found_nothing command words e passes other = false_unless (takes command words) (λ taken. other (passes taken))

@@ -21,7 +21,7 @@ flag_of name = record (new_rule name) { long = Some name; action = Some SetTrue 
 abbrev pub list_of : List ℕ → Rule
 list_of name = record (new_rule name) { action = Some Append }
 
--- a command of the words behind its name, without options, help and version
+-- a command of the words after its name, without options, help and version
 abbrev pub bare_command : List ℕ → App
 bare_command name = on_top (λ s. record s { no_binary_name = true; disable_help_flag = true }) (new_app name)
 

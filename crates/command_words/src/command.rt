@@ -6,7 +6,7 @@ ghost use Rattle.command_words.specs.CommandOptions.{bare_command, option_of, fl
 use clap::{Arg, ArgAction, Command};
 use std::alloc::{AllocError, Global};
 
-/// A command of the words behind its name, without options, help and version.
+/// A command of the words after its name, without options, help and version.
 pub fn plain_command<'a>(alloc: Global, name: &'a str) -> Command<'a>
     ensures { app_of result ≡ bare_command name.entry.now }
 {

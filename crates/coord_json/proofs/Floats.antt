@@ -3,7 +3,6 @@ use Rattle.std.proofs.Common.{◌≡◌, ℕ, ℤ, pos, negsuc, Option, Some, No
 use Rattle.serde_json.specs.Data.{Data, Items, no_items, item}
 use Rattle.serde_json.specs.Written.{has_float, items_have_float}
 use Rattle.bim_model.specs.declared.upload.UploadFault.{UploadFault}
-use Rattle.bim_model.specs.declared.upload.UploadFault.TheVariants as fault
 use Rattle.bim_model.specs.declared.geometry.Extent.{Extent}
 use Rattle.bim_model.specs.declared.element.Element.{Element}
 use Rattle.bim_model.specs.declared.named_model.NamedModel.{NamedModel}
@@ -13,10 +12,12 @@ use Rattle.bim_model.specs.declared.rules.RuleKind.TheVariants.{Clash, Ignore}
 use Rattle.bim_model.specs.Snapshots.{Version}
 use Rattle.bucket_check.specs.declared.pair.SetPair.{SetPair}
 use Rattle.clash_rules.specs.declared.rule_fault.RuleFault.{RuleFault}
-use Rattle.clash_rules.specs.declared.rule_fault.RuleFault.TheVariants.{TooManyRules, BadRule, Distance}
 use Rattle.coord_json.specs.RuleTrees.{storey_tree, class_text, storeys_text, models_text, clash_tree, ignore_tree, kind_tree, rule_items}
 use Rattle.coord_json.specs.Errors.{error_tree, error_at, error_of, error_to, error_many, error_named, error_index, error_count, error_full, error_place, error_store, error_newest, error_version}
-use Rattle.coord_json.specs.FaultTrees.{upload_fault_tree, rule_fault_tree}
+use Rattle.coord_json.specs.declared.fault_words.FaultFields.{FaultFields}
+use Rattle.coord_json.specs.declared.fault_words.FaultFields.TheVariants.{Bare, Place, Id, Reference, What, Index, Count}
+use Rattle.coord_json.specs.FaultWords.{many_word, upload_code, upload_name, upload_fields, rule_code, rule_name, rule_fields}
+use Rattle.coord_json.specs.FaultTrees.{fields_tree, upload_fault_tree, rule_fault_tree}
 use Rattle.coord_json.specs.VersionTrees.{length_tree, box_tree, element_tree, model_tree, version_tree, changed_tree, AreElementTrees, AreModelTrees}
 use Rattle.coord_json.specs.ClashTrees.{side_tree, pair_tree, pair_items, part_tree, clashes_tree, pending_tree}
 
@@ -72,31 +73,20 @@ pub dropped_has_none : (code name : List ℕ) (newest version : ℕ) → has_flo
 unfolding error_version
 dropped_has_none code name newest version = refl
 
+fields_have_none : (code name : List ℕ) (fields : FaultFields) → has_float (fields_tree code name fields) ≡ false
+fields_have_none code name Bare = error_has_none code name
+fields_have_none code name (Place at) = at_has_none code name at
+fields_have_none code name (Id id) = of_has_none code name id
+fields_have_none code name (Reference id to) = to_has_none code name id to
+fields_have_none code name (What what) = many_has_none code name (many_word what)
+fields_have_none code name (Index index) = index_has_none code name index
+fields_have_none code name (Count count) = count_has_none code name count
+
 pub rule_fault_has_none : (f : RuleFault) → has_float (rule_fault_tree f) ≡ false
-rule_fault_has_none (TooManyRules count) = count_has_none _ _ count
-rule_fault_has_none (BadRule index) = index_has_none _ _ index
-rule_fault_has_none (Distance index) = index_has_none _ _ index
+rule_fault_has_none f = fields_have_none (rule_code f) (rule_name f) (rule_fields f)
 
 pub upload_has_none : (f : UploadFault) → has_float (upload_fault_tree f) ≡ false
-upload_has_none fault.NotPart21 = error_has_none _ _
-upload_has_none (fault.BadToken at) = at_has_none _ _ at
-upload_has_none (fault.BadStatement at) = at_has_none _ _ at
-upload_has_none fault.WrongSchema = error_has_none _ _
-upload_has_none (fault.DoubleId id) = of_has_none _ _ id
-upload_has_none (fault.Dangling id to) = to_has_none _ _ id to
-upload_has_none (fault.BadShape id) = of_has_none _ _ id
-upload_has_none (fault.LengthUnit id) = of_has_none _ _ id
-upload_has_none (fault.OffGrid id) = of_has_none _ _ id
-upload_has_none (fault.TooFar id) = of_has_none _ _ id
-upload_has_none (fault.Oblique id) = of_has_none _ _ id
-upload_has_none (fault.PlacementLoop id) = of_has_none _ _ id
-upload_has_none (fault.UnsupportedItem id) = of_has_none _ _ id
-upload_has_none (fault.BadIndex id) = of_has_none _ _ id
-upload_has_none (fault.FaceStuck id) = of_has_none _ _ id
-upload_has_none (fault.VoidedFace id) = of_has_none _ _ id
-upload_has_none (fault.DoubleGuid id) = of_has_none _ _ id
-upload_has_none (fault.TreeFault id) = of_has_none _ _ id
-upload_has_none (fault.TooMany what) = many_has_none _ _ _
+upload_has_none f = fields_have_none (upload_code f) (upload_name f) (upload_fields f)
 
 whole_has_none : (z : ℤ) → has_float (length_tree z) ≡ false
 whole_has_none (pos n) = refl

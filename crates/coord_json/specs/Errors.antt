@@ -2,7 +2,7 @@
 use Rattle.std.specs.Prelude.{ℕ, ◌++◌, List, codes}
 use Rattle.serde_json.specs.Data.{Data, number, string, object, unsigned, member, no_members}
 
--- a code and a name behind it
+-- a code and a name after it
 abbrev pub message : List ℕ → List ℕ → List ℕ
 message code name = code ++ codes " " ++ name
 

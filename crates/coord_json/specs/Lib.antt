@@ -1,4 +1,5 @@
 pub mod Errors
+pub mod FaultWords
 pub mod FaultTrees
 pub mod RuleTrees
 pub mod VersionTrees

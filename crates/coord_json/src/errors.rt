@@ -6,7 +6,7 @@ ghost use Rattle.coord_json.specs.Errors.{message, error_tree, error_at, error_o
 use serde_json::{Value, json};
 use std::alloc::{AllocError, Global};
 
-// A code and a name behind it.
+// A code and a name after it.
 fn message(alloc: Global, code: &str, name: &str) -> Result<String, AllocError>
     ensures { IfOk result (λ s. string_bytes s ≡ message code.now name.now) }
 {

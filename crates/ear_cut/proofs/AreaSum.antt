@@ -65,7 +65,7 @@ triangle a b c = normal_of (a ∷ b ∷ c ∷ [])
 between : (a b c : Point) (ys : List Point) → along (a ∷ b ∷ c ∷ ys) ≡ plus (triangle a b c) (along (a ∷ c ∷ ys))
 between a b c ys = plus_middle (cross_of (vector_of a) (vector_of b)) (cross_of (vector_of b) (vector_of c)) (cross_of (vector_of c) (vector_of a)) (cross_of (vector_of a) (vector_of c)) (along (c ∷ ys)) (cross_back (vector_of c) (vector_of a))
 
--- the j-th point behind p goes
+-- the j-th point after p goes
 along_without : (p : Point) (qs : List Point) (h : Point) (j : ℕ) (d : Point) → j < length qs → along (p ∷ (qs ++ h ∷ [])) ≡ plus (triangle (get_or (p ∷ qs) j d) (get_or qs j d) (get_or (qs ++ h ∷ []) (suc j) d)) (along (p ∷ (remove qs j ++ h ∷ [])))
 along_without p [] h j d l = absurd (omega (arith, l))
 along_without p (b ∷ []) h zero d l = between p b h []

@@ -18,7 +18,7 @@ use Rattle.ear_cut.proofs.Spokes.{area_cyclic, area_turned, area_behind, convex_
 use Rattle.ear_cut.proofs.Search.{first_is, all_pass}
 use Rattle.ear_cut.proofs.Taken.{same_turn}
 
--- ---- the j-th corner is behind the i-th round the last
+-- ---- the j-th corner is after the i-th round the last
 behind : (view : View) (left : List Corner) (i d : ℕ) → IsFan view left → (i + d) + 2 < length left → pos 0 <ℤ area_at view left (length left - 1) i (suc (i + d))
 behind view left i zero f h =
     let r = (f.each (suc (i + 0)) (omega arith) (omega (arith, h))).round in

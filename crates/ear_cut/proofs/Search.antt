@@ -51,7 +51,7 @@ same_number n m h k = grind (arith, nat_tests)
 other_number : (n m : ℕ) → n < m → (n == m) ≡ false
 other_number n m h = grind (arith, nat_tests)
 
--- how far a triangle is clear tells whether it holds no corner
+-- how far a triangle is clear says whether it holds no corner
 pub clear_tells : (view : Option View) (left : List Corner) (t : Turn) (n : ℕ) → IsClearTo view left t n → (n < length left → is_free view t (slice_index_or left n nobody) ≡ false) → (n == length left) ≡ list_all (λ (o : Corner). is_free view t o) left
 clear_tells view left t n h k =
     elim (cases_lt n (length left)) [

@@ -59,7 +59,7 @@ cancel_positive (negsuc c) (negsuc a) h k = absurd (omega (arith, ints, h))
 add_positive : (a b : ℤ) → pos 0 <ℤ a → pos 0 <ℤ b → pos 0 <ℤ (a +ℤ b)
 add_positive a b h k = omega (arith, ints)
 
--- w is behind v, v is behind u, and all are less than half a turn behind h: so w is behind u
+-- w is after v, v is after u, and all are less than half a turn after h: so w is after u
 pub area_behind : (view : View) (o h u v w : Spot) → pos 0 <ℤ area view o h u → pos 0 <ℤ area view o h v → pos 0 <ℤ area view o h w → pos 0 <ℤ area view o u v → pos 0 <ℤ area view o v w → pos 0 <ℤ area view o u w
 area_behind view o h u v w hu hv hw uv vw =
     cancel_positive (area view o h v) (area view o u w) hv

@@ -13,7 +13,7 @@ use Rattle.ear_cut.specs.Corners.{corners_from, turn_at, angle_of, AreInGrid}
 use Rattle.ear_cut.proofs.Places.{length-corners}
 use Rattle.ear_cut.specs.Removal.{choice, ear_of, is_turned_over, cut_by, cut_of}
 
--- the list done, and what comes behind it
+-- the list done, and what comes after it
 abbrev pub behind : List Ear → Option (List Ear) → Option (List Ear)
 behind done rest = option_map (λ more. done ++ more) rest
 

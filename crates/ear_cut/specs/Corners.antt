@@ -23,7 +23,7 @@ nobody = record { place = 0; point = record { x = pos 0; y = pos 0; z = pos 0 } 
 abbrev pub previous : ℕ → ℕ → ℕ
 previous n i = if i == 0 then n - 1 else (i - 1)
 
--- the place behind a place, around an outline
+-- the place after a place, around an outline
 abbrev pub next : ℕ → ℕ → ℕ
 next n i = if i + 1 == n then 0 else (i + 1)
 

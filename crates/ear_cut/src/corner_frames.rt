@@ -26,7 +26,7 @@ pub struct Frame {
 /// A frame for each run of corners, and how many corners were taken out since they were made.
 #[derive(Drop)]
 pub struct Frames {
-    /// Each was round its run and the one behind it.
+    /// Each was round its run and the one after it.
     pub runs: Vec<Frame>,
     pub gone: usize,
 }
@@ -123,7 +123,7 @@ pub fn end_of(n: usize, start: usize, count: usize) -> usize
     if n - start < count { n } else { start + count }
 }
 
-/// The frame round a run and the one behind it.
+/// The frame round a run and the one after it.
 fn frame_round(view: View, left: &[Corner], b: usize) -> Frame
     requires b_in { run * b < length left.now }
     requires left_in { AreInGrid left.now }

@@ -19,7 +19,7 @@ use std::alloc::{AllocError, Global};
 #[derive(Clone, Copy)]
 pub struct Note {
     pub angle: Angle,
-    /// Whether the corner behind those that are clear is known to be in its triangle.
+    /// Whether the corner after those that are clear is known to be in its triangle.
     pub held: bool,
     /// So many corners that remain, from the first on, are not in its triangle.
     pub clear: usize,
@@ -163,7 +163,7 @@ fn searched(view: View, left: &[Corner], frames: &Frames, i: usize, note: Note) 
     }
 }
 
-/// Whether the note of a corner, with its triangle searched, tells that it is an ear of n corners.
+/// Whether the note of a corner, with its triangle searched, says that it is an ear of n corners.
 fn tells_ear(note: Note, n: usize) -> bool
     ensures { result ≡ tells_ear note n }
 {
@@ -265,7 +265,7 @@ fn renew(view: Option<View>, left: &[Corner], notes: &mut [Note], i: usize)
     notes[i] = fresh(view, left, i);
 }
 
-/// The place, among n corners, that is behind the i-th once that is taken out.
+/// The place, among n corners, that is after the i-th once that is taken out.
 fn place_behind(n: usize, i: usize) -> usize
     requires { i ≤ n }
     ensures { result ≡ place_behind n i }

@@ -62,7 +62,7 @@ pub fn previous(n: usize, i: usize) -> usize
     if i == 0 { n - 1 } else { i - 1 }
 }
 
-/// The place behind the i-th of n in a closed list.
+/// The place after the i-th of n in a closed list.
 #[inline(always)]
 pub fn next(n: usize, i: usize) -> usize
     requires { i < n }

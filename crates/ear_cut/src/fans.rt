@@ -40,7 +40,7 @@ fn area_at(view: View, left: &[Corner], i: usize, j: usize, k: usize) -> i64
     )
 }
 
-/// Whether a corner is behind the one before it round the last corner, less than half a turn behind the first, and
+/// Whether a corner is after the one before it round the last corner, less than half a turn after the first, and
 /// convex; a `false` says nothing.
 fn is_fan_at(view: View, left: &[Corner], i: usize) -> bool
     requires some { 0 < i }

@@ -78,7 +78,7 @@ settled_adds j k stamp n number is f refusals change fault at e p =
 pub settled_entry : (j k : List Entry) (e : Entry) (fault : Option BookFault) → k ≡ j ++ unless_refused fault e → fault ≡ None → k ≡ j ++ e ∷ []
 settled_entry j k e fault p none = p ∙ ap (λ f. j ++ unless_refused f e) none
 
--- refusals behind one that doesn't hold
+-- refusals after one that doesn't hold
 pub behind_none : (a : Option BookFault) (rest : List (Option BookFault)) → a ≡ None → first_of (a ∷ rest) ≡ first_of rest
 behind_none a rest e = ap (λ o. first_of (o ∷ rest)) e
 

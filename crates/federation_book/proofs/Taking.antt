@@ -182,7 +182,7 @@ left_one projects h i lt =
     let all = numbers_length projects in
     subst (λ n. left_in (live_of n h) ≤ left_all projects h) (number_at projects i 0 lt) (get_or-le-sum_by (λ n. left_in (live_of n h)) (project_numbers projects) i 0 (omega (arith, all, lt)))
 
--- the place is one of the orders of the project of an index, or of those behind it
+-- the place is one of the orders of the project of an index, or of those after it
 module _ (projects : ℕ) (h : List Entry) (i place : ℕ) (lt : i < projects) where
   abbrev orders : List ℕ → List OrderValue
   orders ns = flat_map (λ n. orders_of n (state_of n h)) ns

@@ -10,6 +10,7 @@ ghost use Rattle.federation_book.specs.KeptProjects.{KeepsProject, IsKept, setti
 
 use crate::project::{Project, left_in};
 use crate::project_reads::project_of;
+use bim_model::know;
 use book_history::{BookFault, Entry, Horizon, Limits, StoreWhat};
 use book_topics::Board;
 
@@ -42,7 +43,7 @@ impl State {
         requires high { number ≤ length self.now.projects.items }
         ensures { KeepsProject result.now (state_of number self.now.entries.items) }
     {
-        let _count = self.entries.len();
+        know(self.entries.len());
         &self.projects[number as usize - 1]
     }
 

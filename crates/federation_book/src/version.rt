@@ -8,7 +8,7 @@ ghost use Rattle.book_history.specs.Versions.{nothing, is_done, with_done, made_
 ghost use Rattle.book_history.specs.Requests.{order_at};
 ghost use Rattle.book_history.proofs.OneGrid.{HasParts};
 
-use bim_model::{Rules, Shared, Snapshot};
+use bim_model::{Rules, Shared, Snapshot, know};
 use book_history::WorkOrder;
 use bucket_check::{BucketSet, BucketWork};
 use bucket_grid::{Cell, Grid, GridError};
@@ -42,13 +42,13 @@ impl Model for KeptVersion {
 }
 
 /// What is known of every grid.
-pub fn know(grid: &Grid)
+pub fn know_grid(grid: &Grid)
     ensures { HasParts grid.now }
 {
-    let _models = grid.models();
-    let _places = grid.places();
-    let _boxes = grid.boxes();
-    let _buckets = grid.buckets();
+    know(grid.models());
+    know(grid.places());
+    know(grid.boxes());
+    know(grid.buckets());
 }
 
 // The grid of no models.
@@ -59,7 +59,7 @@ fn empty_grid(alloc: Global, snapshot: Shared<Snapshot>) -> Result<Grid, AllocEr
 {
     match Grid::of(alloc, snapshot) {
         Ok(grid) => {
-            know(&grid);
+            know_grid(&grid);
             Ok(grid)
         }
         Err(GridError::TooSpread { .. }) => unreachable!(),
@@ -97,8 +97,8 @@ impl KeptVersion {
         ensures { IfOk result (λ made. made ≡ made_after self.now snapshot) }
     {
         let grid = Shared::new(alloc, grid)?;
-        know(self.grid.get());
-        know(grid.get());
+        know_grid(self.grid.get());
+        know_grid(grid.get());
         let progress = carry(alloc, &self.progress, self.grid.get(), &grid, number)?;
         Ok(KeptVersion {
             snapshot,
@@ -126,7 +126,7 @@ impl KeptVersion {
     pub fn is_done(&self, cell: Cell) -> bool
         ensures { result ≡ is_done self.now cell }
     {
-        know(self.grid.get());
+        know_grid(self.grid.get());
         self.progress.is_done(cell)
     }
 
@@ -141,7 +141,7 @@ impl KeptVersion {
         ensures { IfOk result (λ order. order
             ≡ option_map (order_at project version self.now.content) (slice_get self.now.undone place)) }
     {
-        know(self.grid.get());
+        know_grid(self.grid.get());
         match self.progress.undone(place) {
             Some(cell) => Ok(Some(WorkOrder::of(BucketWork {
                 project,
@@ -153,15 +153,15 @@ impl KeptVersion {
         }
     }
 
-    /// Takes the set of a bucket, and tells how many are to be checked then.
+    /// Takes the set of a bucket, and says how many are to be checked then.
     pub fn put(&mut self, set: Shared<BucketSet>) -> u64
         requires content { set.work.grid.version ≡ self.old.content }
         requires bucket { IsBucket set.work.grid.boxes set.work.cell }
         ensures done { self.new ≡ with_done set.work.cell self.old }
         ensures left { result ≡ length self.new.undone }
     {
-        know(self.grid.get());
-        know(set.get().work().grid.get());
+        know_grid(self.grid.get());
+        know_grid(set.get().work().grid.get());
         let _answer = self.progress.put(set);
         self.progress.left()
     }

@@ -10,7 +10,7 @@ ghost use Rattle.federation_book.specs.KeptProjects.{IsKept, settings_of};
 use crate::project::{Project, left_in};
 use crate::project_reads::{dropped, place_of};
 use crate::state::State;
-use crate::version::know;
+use crate::version::know_grid;
 use bim_model::Shared;
 use book_history::{BookFault, Change, Entry, ReplyBody, Stamp, WorkOrder};
 use bucket_check::BucketSet;
@@ -77,7 +77,7 @@ pub fn finish(
     ensures err { OnErr result (state.new.entries.items ≡ state.old.entries.items) }
 {
     let work = set.get().work();
-    know(work.grid.get());
+    know_grid(work.grid.get());
     let (number, version, cell) = (work.project, work.version, work.cell);
     let project = state.project(number);
     if let Some(fault) = dropped(project, version) {

@@ -120,7 +120,7 @@ fn boxes_of_each_number_are_found(rt: HostRuntime) -> Result<(), Fail> {
     Ok(())
 }
 
-/// A table that is filled again, by places, and asked for the boxes behind one of them alone, all and those that begin
+/// A table that is filled again, by places, and asked for the boxes after one of them alone, all and those that begin
 /// at a start.
 #[test]
 fn a_table_is_filled_again(rt: HostRuntime) -> Result<(), Fail> {

@@ -139,7 +139,7 @@ long_stays text more (inl long) =
 long_stays text more (inr (fields, last, q, reads, fits, many)) =
     inr (fields, last, q ++ more, ReadsSection-append text fields last q more reads, fits, many)
 
--- ---- faults behind whole chunks
+-- ---- faults after whole chunks
 
 pub last_is_no_chunk : (text rest c r : List ℕ) → ReadsLast text rest → ReadsChunk text c r → ⊥
 last_is_no_chunk text rest c r (l, reads, nil) x =

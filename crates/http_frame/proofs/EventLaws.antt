@@ -68,7 +68,7 @@ fails_stays bytes more f (inr (h, t, good, x)) = inr (h, t ++ more, good_stays b
 pub asks_stays : (bytes more : List ℕ) → Asks bytes → Asks (bytes ++ more)
 asks_stays bytes more (h, t, good, a, n) = (h, t ++ more, good_stays bytes more h t good, a, n)
 
--- behind a good head it is settled whether it asks
+-- after a good head it is settled whether it asks
 pub settled : (bytes more : List ℕ) (h : RequestHead) (t : List ℕ) → HasGoodHead bytes h t → Asks (bytes ++ more) → Asks bytes
 settled bytes more h t good (k, u, fine, a, n) =
     let e = (good_unique (bytes ++ more) k h u (t ++ more) fine (good_stays bytes more h t good)).0 in

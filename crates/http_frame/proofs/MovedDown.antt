@@ -3,7 +3,7 @@ use Rattle.std.proofs.Common.{◌≡◌, ℕ, zero, suc, ◌+◌, ◌≤◌, Lis
 use Rattle.std.proofs.lemmas.List.{drop-drop}
 use lib.Lanes.{put_chunk}
 
--- what is behind the bytes written stays
+-- what is after the bytes written stays
 pub drop_put : (i : ℕ) (xs ys : List ℕ) (k : ℕ) → i + length ys ≤ k → drop k (put_chunk i xs ys) ≡ drop k xs
 drop_put i [] ys k le = refl
 drop_put zero (x ∷ xs) [] k le = refl
@@ -12,7 +12,7 @@ drop_put zero (x ∷ xs) (y ∷ ys) (suc k) le = drop_put zero xs ys k (omega ar
 drop_put (suc i) (x ∷ xs) ys zero le = absurd (omega arith)
 drop_put (suc i) (x ∷ xs) ys (suc k) le = drop_put i xs ys k (omega arith)
 
--- more bytes behind those that were moved before
+-- more bytes after those that were moved before
 pub moved_more : (old mid new : List ℕ) (from to done n : ℕ) → take (to + done) mid ≡ take to old ++ take done (drop from old)
     → drop (from + done) mid ≡ drop (from + done) old → take ((to + done) + n) new ≡ take (to + done) mid ++ take n (drop (from + done) mid)
     → take (to + (done + n)) new ≡ take to old ++ take (done + n) (drop from old)
@@ -24,7 +24,7 @@ moved_more old mid new from to done n before same more =
     ∙ append_assoc (take to old) (take done (drop from old)) (take n (drop done (drop from old)))
     ∙ ap (λ z. take to old ++ z) (sym (take-add done n (drop from old)))
 
--- what is behind them is the same still
+-- what is after them is the same still
 pub rest_more : (old mid new : List ℕ) (from done n : ℕ) → drop (from + done) mid ≡ drop (from + done) old
     → drop ((from + done) + n) new ≡ drop ((from + done) + n) mid → drop (from + (done + n)) new ≡ drop (from + (done + n)) old
 rest_more old mid new from done n same behind =

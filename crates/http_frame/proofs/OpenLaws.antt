@@ -10,7 +10,7 @@ use Rattle.http_frame.specs.ChunkSizes.{size_run}
 use Rattle.http_frame.proofs.BodyLaws.{size_unique, never_now, chunks_unique, fails_is_terminal, last_is_terminal}
 use Rattle.http_frame.proofs.SizeLaws.{right_is_whole, not_wrong_may_be_right}
 
--- behind whole chunks: no chunk within the room, no fault and no end
+-- after whole chunks: no chunk within the room, no fault and no end
 pub record IsOpenAt (room : ℕ) (last : List ℕ) : Type 0 where
   pub no_chunk : (c r : List ℕ) → ReadsChunk last c r → length c ≤ room → ⊥
   pub no_fault : (f : FrameFault) → FailsInChunk room last f → ⊥
@@ -44,7 +44,7 @@ size_open room last right part = record {
     fault f (inr (inr (inl (x, e)))) = none x.line _ x.reads
     fault f (inr (inr (inr (rest, (l, x, nil), how)))) = none l rest x
 
--- in a chunk within the room, or in the line end behind it
+-- in a chunk within the room, or in the line end after it
 pub data_open : (room : ℕ) (last : List ℕ) (l : ChunkLine) (behind : List ℕ) → ReadsSize last l behind → 0 < chunk_size l → chunk_size l ≤ room
     → ((c r : List ℕ) → behind ≡ c ++ (crlf_bytes ++ r) → length c ≡ chunk_size l → ⊥) → (LacksEnd room last → ⊥) → IsOpenAt room last
 data_open room last l behind reads some fits part ends = record {

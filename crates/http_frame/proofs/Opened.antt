@@ -26,7 +26,7 @@ not_ended s is e = subst (λ (v : SizeSpot). IsInLine v) e is
 line_opened : (all : ℕ) (last : List ℕ) (s : SizeSpot) → s ≡ size_run (Digits 0) last → IsInLine s → IsOpenAt all last
 line_opened all last s at is = size_open all last (λ e. inside s is (at ∙ e)) (λ e. not_ended s is (at ∙ e))
 
--- so few bytes stand behind the line that no chunk and its CR LF can
+-- so few bytes stand after the line that no chunk and its CR LF can
 few_behind : (begun after c r : List ℕ) (size left : ℕ) → size ≡ length begun + left → length after < 2 → (length after ≡ 0) ⊎ (left ≡ 0)
     → begun ++ after ≡ c ++ (crlf_bytes ++ r) → length c ≡ size → ⊥
 few_behind begun after c r size left is few how e n =

@@ -84,7 +84,7 @@ hex_all n [] m e = (refl, let same = same_count n m e in omega arith)
 hex_all n (b ∷ t) m e =
     digits_go n b t m (is_ascii_hexdigit b) (nat_lt n 8) (n == 0) (b == 59) (b == 13) (λ k. hex_all (n + 1) t k) e
 
--- behind the digits
+-- after the digits
 abbrev IsPast : SizeSpot → Type 0
 IsPast (Digits n) = ⊥
 IsPast (Extension n) = Unit {0}
@@ -395,7 +395,7 @@ in_line most text content last cs s value room b next to_next at is left spot in
         chunk_line most (text ++ b ∷ []) content (last ++ b ∷ []) cs line.0 (value_step s value b) room (value_step s value b == 0) refl more_at is left line.1 size
     turned Wrong e = (cs, last ++ b ∷ [], more_at, inl (wrong_is_never (last ++ b ∷ []) (run_next ∙ sym e), refl))
 
--- ---- behind a chunk
+-- ---- after a chunk
 
 same_end : (begun after : List ℕ) (b : ℕ) → (begun ++ after) ++ b ∷ [] ≡ begun ++ (after ++ b ∷ [])
 same_end begun after b = append_assoc begun after (b ∷ [])

@@ -191,7 +191,7 @@ open_from p (b ∷ t) o = let r = open_from (step p b) t o in (r.0, back p b (t 
 pub open_may : (text : List ℕ) → IsOpen (run Start text) → (more : List ℕ) × (fs : List Field) × (last : LineEnd) × (rest : List ℕ) × ReadsSection (text ++ more) fs last rest
 open_may text o = let r = open_from Start text o in (r.0, r.1.0, r.1.1, r.1.2, r.1.3)
 
--- behind the empty line the text begins with a section
+-- after the empty line the text begins with a section
 pub done_is_section : (text : List ℕ) → run Start text ≡ Done → IsSection text
 done_is_section text e = subst (λ (t : List ℕ). IsSection t) (append-nil text) (now Start text e)
   where

@@ -46,7 +46,7 @@ size_found text hope long so = hope (λ more l rest x.
 
 -- ---- chunks
 
--- no fault comes behind whole chunks, and no end of the body
+-- no fault comes after whole chunks, and no end of the body
 record IsQuiet (room : ℕ) (text : List ℕ) : Type 0 where
   pub no_fault : (cs : List (List ℕ)) (last : List ℕ) (f : FrameFault) → ReadsChunks room text cs last → FailsInChunk (room_left room cs) last f → ⊥
   pub no_end : (cs : List (List ℕ)) (last trailers rest : List ℕ) → ReadsChunks room text cs last → ReadsLast last trailers → ReadsTrailers trailers rest → ⊥
@@ -77,7 +77,7 @@ trailers_short room text rest quiet last long = no_long (inl (long, λ fields en
         let few : length fields ≤ 64 = not_more (length fields) 64 (λ many. no_long (inr (fields, end, r ++ after, reads, short, many))) in
         quiet.no_end [] text rest (r ++ after) refl last (record { fields = fields; last = end; reads = reads; short = short; few = few })
 
--- what is read on behind a chunk
+-- what is read on after a chunk
 abbrev Goes : ℕ → Type 0
 Goes room = (c rest : List ℕ) → 0 < length c → length c ≤ room → IsQuiet (room - length c) rest → 270 * (room - length c) + 16651 ≤ length rest → ⊥
 
@@ -122,7 +122,7 @@ chunk_short room n text behind l quiet x is some fits line long go =
     } in
     go content cut.0 here within (quiet_behind room text content cut.0 quiet within chunk) (omega arith))
 
--- one line: no chunk, or one behind which it goes on
+-- one line: no chunk, or one after which it goes on
 line_short : (room n : ℕ) (text behind : List ℕ) (l : ChunkLine) → IsQuiet room text → ReadsSize text l behind → chunk_size l ≡ n → n ≤ room
     → length text ≤ 267 + length behind → 270 * room + 16651 ≤ length text → Goes room → ⊥
 line_short room zero text behind l quiet x is fits line long go = trailers_short room text behind quiet (l, x, is) (omega arith)

@@ -98,7 +98,7 @@ right_is_whole text l rest x =
     ap (size_run (Digits 0)) (x.1.1 ∙ line_text l rest x.0.no_pad) ∙ run_digits 0 l.digits behind x.1.0.digits.2 few
     ∙ run_behind (0 + length l.digits) l.extension rest some x.1.0.extension x.0.short
 
--- behind a byte that no right line has there no right line comes
+-- after a byte that no right line has there no right line comes
 pub wrong_is_never : (text : List ℕ) → size_run (Digits 0) text ≡ Wrong → NeverHasSize text
 wrong_is_never text e more l rest x =
     let a : size_run (Digits 0) (text ++ more) ≡ Wrong = size_run-append (Digits 0) text more ∙ ap (λ s. size_run s more) e ∙ run_wrong more in
@@ -216,7 +216,7 @@ right_line text (ds, e, rest, all, few, some, is, short, whole) =
       ),
     )
 
--- behind the last byte of a right line the text begins with one
+-- after the last byte of a right line the text begins with one
 pub whole_is_right : (text : List ℕ) → size_run (Digits 0) text ≡ Whole → (l : ChunkLine) × (rest : List ℕ) × ReadsSize text l rest
 whole_is_right text e = right_line text (subst (λ (t : List ℕ). From (Digits 0) t) (append-nil text) (now (Digits 0) text e))
   where

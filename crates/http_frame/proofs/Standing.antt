@@ -36,7 +36,7 @@ use Rattle.http_frame.proofs.StepLaws.{body_to_come}
 use Rattle.http_frame.proofs.ShortRests.{rest_is_short}
 use Rattle.http_frame.proofs.Opened.{reading_goes_on}
 
--- ---- want of memory, and a fault again
+-- ---- out of memory, and a fault again
 
 pub memory_step : (stage : Stage) (items new : List ℕ) (at : ℕ) → new ≡ items → Steps stage items at (record { stage = stage; at = at; answer = Err Memory }) new
 unfolding Steps

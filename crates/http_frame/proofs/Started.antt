@@ -15,7 +15,7 @@ use Rattle.http_frame.specs.Scan.{run, IsOpen, after_lf, after_line, Parts, IsSt
 use Rattle.http_frame.proofs.Lines.{token_no_lf, uri_no_lf, may_is_head}
 use Rattle.http_frame.proofs.Scanned.{open_may, open_none}
 
--- ---- the bytes behind the first line
+-- ---- the bytes after the first line
 
 after_blank : (ends : List LineEnd) (rest : List ℕ) → after_line (print_blank ends ++ rest) ≡ after_line rest
 unfolding after_line
@@ -122,7 +122,7 @@ starts_more bytes more l line (p, x) =
 pub started_stays : (bytes more l : List ℕ) → first_line bytes ≡ Some l → IsStarted bytes → IsStarted (bytes ++ more)
 started_stays bytes more l line s = ∥∥₁_map s (λ (x : Starts bytes). starts_more bytes more l line x)
 
--- the parser's unfinished answer, asked once, tells that
+-- the parser's unfinished answer, asked once, says that
 pub may_is_started : (bytes l : List ℕ) → first_line bytes ≡ Some l → MayBecomeRequest bytes → IsStarted bytes
 may_is_started bytes l line may =
     let head = may_is_head bytes l line may in

@@ -1,4 +1,4 @@
--- The body behind a head (RFC 9112, 6 and 7.1).
+-- The body after a head (RFC 9112, 6 and 7.1).
 use Rattle.std.specs.Prelude.{◌≡◌, ℕ, ◌-◌, ◌<◌, ◌≤◌, ◌⊎◌, List, [], ◌∷◌, ◌++◌, length, IsSome}
 use Rattle.std.specs.List.{flat_map}
 use Rattle.httparse.specs.Ascii.{crlf_bytes}

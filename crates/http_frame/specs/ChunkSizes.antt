@@ -4,7 +4,7 @@ use Rattle.std.specs.Char.{is_ascii_hexdigit}
 use Rattle.http_frame.specs.declared.size_line.SizeSpot.{SizeSpot}
 use Rattle.http_frame.specs.declared.size_line.SizeSpot.TheVariants.{Digits, Extension, Cr, Whole, Wrong}
 
--- where the byte behind this one stands
+-- where the byte after this one stands
 abbrev pub size_step : SizeSpot → ℕ → SizeSpot
 size_step (Digits n) b =
     if is_ascii_hexdigit b then (if nat_lt n 8 then Digits (n + 1) else Wrong)

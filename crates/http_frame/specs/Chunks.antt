@@ -50,7 +50,7 @@ trailers_on here fields count room =
     if nat_le (MOST_HEAD - 1) count then step.Fault HeadTooLong
     else step.On (Trailers here fields (count + 1)) room
 
--- from the place behind a byte of the trailers, and whether it was LF
+-- from the place after a byte of the trailers, and whether it was LF
 abbrev pub trailer_turn : Place → ℕ → ℕ → ℕ → Bool → ChunkStep
 trailer_turn place.Start fields count room lf =
     trailers_on place.Start (min fields MOST_FIELDS + 1) count room
@@ -98,7 +98,7 @@ IsInLine spot.Cr = Unit {0}
 IsInLine spot.Whole = ⊥
 IsInLine spot.Wrong = ⊥
 
--- a chunk that is not empty, whose line and first bytes came, the bytes behind it, and the room with it
+-- a chunk that is not empty, whose line and first bytes came, the bytes after it, and the room with it
 pub record IsInChunk (all room left : ℕ) (text content after : List ℕ) : Type 0 where
   pub line : ChunkLine
   pub reads : ReadsSize text line (content ++ after)
@@ -117,7 +117,7 @@ pub record IsInTrailers (here : Place) (fields count : ℕ) (text : List ℕ) : 
   pub count_is : count ≡ length text
   pub short : length text < most_head
 
--- what of the text behind whole chunks leads to a place: the room left behind them, the next chunk's content
+-- what of the text after whole chunks leads to a place: the room left behind them, the next chunk's content
 abbrev pub IsPart : Part → ℕ → ℕ → List ℕ → List ℕ → Type 0
 IsPart (Size s value) all room text content =
     (content ≡ []) × (room ≡ all) × (s ≡ size_run (spot.Digits 0) text) × IsInLine s

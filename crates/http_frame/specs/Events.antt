@@ -19,7 +19,7 @@ pub record Begins (bytes : List ℕ) (request : HttpRequest) (rest : List ℕ) :
   pub close : request.close ≡ closes head
   pub encoded : request.encoded ≡ is_encoded head
 
--- the bytes begin with a fault, in a head or in the body behind a good one
+-- the bytes begin with a fault, in a head or in the body after a good one
 abbrev pub Fails : List ℕ → FrameFault → Type 0
 Fails bytes fault =
     FailsInHead bytes fault

@@ -54,7 +54,7 @@ pending_of good = record { facts = good.facts; owes = good.owes; body = awaited_
 abbrev pub IsSized : ℕ → Framing → Type 0
 IsSized n how = ((how ≡ absent) × (n ≡ 0)) ⊎ (how ≡ sized n)
 
--- what is behind the head: the items from the place on; chunks that were taken and those; or a body and those
+-- what is after the head: the items from the place on; chunks that were taken and those; or a body and those
 abbrev pub IsBodyAt : Awaited → RequestHead → List ℕ → List ℕ → ℕ → Type 0
 IsBodyAt (Sized n) head behind items at = IsSized n (framing head) × (behind ≡ drop at items)
 IsBodyAt (Chunked c) head behind items at =
@@ -152,7 +152,7 @@ is_failed (Head watch) = false
 is_failed (Body p) = false
 is_failed (Failed fault) = true
 
--- at the front of a line, behind empty lines alone
+-- at the front of a line, after empty lines alone
 abbrev pub is_before : Spot → Bool
 is_before spot.Before = true
 is_before spot.BeforeCr = false

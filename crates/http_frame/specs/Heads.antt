@@ -98,7 +98,7 @@ framing_by [] (coding ∷ []) minor =
     if eq_ignore_case coding (codes "chunked") && minor == 1 then chunked else badly
 framing_by lengths codings minor = badly
 
--- how the end of the body is told behind a head
+-- how the end of the body is told after a head
 unfoldable pub framing : RequestHead → Framing
 framing head =
     framing_by (values_of (codes "content-length") head) (values_of (codes "transfer-encoding") head)

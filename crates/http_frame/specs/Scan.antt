@@ -10,7 +10,7 @@ use Rattle.http_frame.specs.declared.field_lines.Place.TheVariants.{Start, Name,
 use Rattle.http_frame.specs.Heads.{begins_lf}
 use Rattle.std.specs.Prelude.{◌||◌, ◌&&◌}
 
--- where the byte behind this one stands
+-- where the byte after this one stands
 abbrev pub step : Place → ℕ → Place
 step Start b = if b == 13 then Last else (if b == 10 then Done else (if is_token_byte b then Name else Dead))
 step Name b = if b == 58 then Value else (if is_token_byte b then Name else Dead)
@@ -35,12 +35,12 @@ IsOpen Last = ⊤
 IsOpen Done = ⊥
 IsOpen Dead = ⊥
 
--- the bytes behind the first LF
+-- the bytes after the first LF
 abbrev pub after_lf : List ℕ → List ℕ
 after_lf [] = []
 after_lf (b ∷ bytes) = if b == 10 then bytes else after_lf bytes
 
--- the bytes behind the first line that is not empty
+-- the bytes after the first line that is not empty
 unfoldable pub after_line : List ℕ → List ℕ
 after_line [] = []
 after_line (b ∷ bytes) =

@@ -14,11 +14,11 @@ use crate::types::FrameFault;
 pub enum Part {
     /// In the line before a chunk, whose digits write this number so far.
     Size(SizeSpot, u64),
-    /// In a chunk that lacks so many bytes, or behind one that lacks none.
+    /// In a chunk that lacks so many bytes, or after one that lacks none.
     Data(usize),
-    /// Behind the CR that follows a chunk.
+    /// After the CR that follows a chunk.
     Lf,
-    /// In the trailers, behind so many fields (counted up to 65) and bytes.
+    /// In the trailers, after so many fields (counted up to 65) and bytes.
     Trailers(Place, usize, usize),
 }
 

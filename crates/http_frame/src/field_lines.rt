@@ -12,17 +12,17 @@ pub enum Place {
     Start,
     Name,
     Value,
-    /// Behind the CR of a field's line.
+    /// After the CR of a field's line.
     Cr,
-    /// Behind the CR of the empty line.
+    /// After the CR of the empty line.
     Last,
-    /// Behind the empty line.
+    /// After the empty line.
     Done,
-    /// Behind a byte that no field line has there.
+    /// After a byte that no field line has there.
     Dead,
 }
 
-/// Where the byte behind this one stands.
+/// Where the byte after this one stands.
 pub fn place_behind(place: Place, b: u8) -> Place
     ensures { result ≡ step place b }
 {
@@ -76,11 +76,11 @@ pub fn place_behind(place: Place, b: u8) -> Place
 pub enum Spot {
     /// At the front of a line; only empty lines came.
     Before,
-    /// Behind a CR there.
+    /// After a CR there.
     BeforeCr,
     /// In the first line.
     Line,
-    /// Behind the first line.
+    /// After the first line.
     Fields(Place),
 }
 
@@ -123,7 +123,7 @@ pub fn is_open(spot: Spot) -> bool
     }
 }
 
-/// Goes on from a spot over these bytes. It looks at none behind the head's end, or behind a byte that ends all hope:
+/// Goes on from a spot over these bytes. It looks at none after the head's end, or after a byte that ends all hope:
 /// what follows leads nowhere else.
 pub fn walk_on(spot: Spot, bytes: &[u8]) -> Spot
     ensures { result ≡ spot_run spot bytes.now }

@@ -63,7 +63,7 @@ fn pending_of(good: GoodHead) -> Pending
     }
 }
 
-// Moves the bytes behind the place to the front.
+// Moves the bytes after the place to the front.
 fn settle(buf: &mut Vec<u8>, at: usize)
     requires { at ≤ length buf.old.items }
     ensures { buf.new.items ≡ drop at buf.old.items }
@@ -75,7 +75,7 @@ fn settle(buf: &mut Vec<u8>, at: usize)
     }
 }
 
-// Parts the bytes in front from those behind a place, and keeps these: the front is not copied.
+// Parts the bytes in front from those after a place, and keeps these: the front is not copied.
 fn part(buf: &mut Vec<u8>, count: usize, at: usize) -> Result<Items<u8>, AllocError>
     requires count { count ≤ length buf.old.items }
     requires at { at ≤ length buf.old.items }
@@ -105,7 +105,7 @@ fn copied(buf: &Vec<u8>, at: usize, count: usize) -> Result<Items<u8>, AllocErro
     Ok(Items::from_vec(body))
 }
 
-// A body that stands at the front of the buffer: it is copied, and what is behind it from the place on stays there.
+// A body that stands at the front of the buffer: it is copied, and what is after it from the place on stays there.
 fn step_front(buf: &mut Vec<u8>, at: usize, facts: HeadFacts, filled: usize) -> Stepped
     requires at { at ≤ length buf.old.items }
     requires filled { filled ≤ at }
@@ -131,7 +131,7 @@ fn step_front(buf: &mut Vec<u8>, at: usize, facts: HeadFacts, filled: usize) -> 
     }
 }
 
-// A body that stands at the front of the buffer, and what is behind it from the place on: the lesser of the two is
+// A body that stands at the front of the buffer, and what is after it from the place on: the lesser of the two is
 // copied.
 fn step_whole(buf: &mut Vec<u8>, at: usize, facts: HeadFacts, filled: usize) -> Stepped
     requires at { at ≤ length buf.old.items }
@@ -161,7 +161,7 @@ fn step_whole(buf: &mut Vec<u8>, at: usize, facts: HeadFacts, filled: usize) -> 
     }
 }
 
-// A body of a stated length that stands whole behind other bytes, as of requests that came in one piece.
+// A body of a stated length that stands whole after other bytes, as of requests that came in one piece.
 fn step_copied(buf: &mut Vec<u8>, at: usize, facts: HeadFacts, count: usize) -> Stepped
     requires { at + count ≤ length buf.old.items }
     ensures safe { IsSafe result.stage buf.new.items result.at }

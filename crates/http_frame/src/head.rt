@@ -154,7 +154,7 @@ fn lacks_host(minor: u8, block: &[u8], headers: &[HeaderSpan]) -> bool
     minor == 1 && count_named(b"host", block, headers) != 1
 }
 
-/// How the body comes behind a whole head, or the head's first fault.
+/// How the body comes after a whole head, or the head's first fault.
 #[tactic(auto, unfolding(crate::specs::Told::checked_by))]
 pub fn checked(
     block: &[u8],

@@ -5,18 +5,18 @@ ghost use Rattle.http_frame.specs.ChunkSizes.{size_step, size_run};
 /// Where in the line before a chunk the next byte stands.
 #[derive(Clone, Copy, Debug, PartialEq, Eq)]
 pub enum SizeSpot {
-    /// Behind so many digits.
+    /// After so many digits.
     Digits(usize),
-    /// Behind so many bytes of the extension.
+    /// After so many bytes of the extension.
     Extension(usize),
     Cr,
-    /// Behind the line.
+    /// After the line.
     Whole,
-    /// Behind a byte that no such line has there.
+    /// After a byte that no such line has there.
     Wrong,
 }
 
-/// Where one stands in the line behind a byte.
+/// Where one stands in the line after a byte.
 pub fn size_spot_behind(spot: SizeSpot, b: u8) -> SizeSpot
     ensures { result ≡ size_step spot b }
 {

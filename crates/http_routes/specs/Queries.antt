@@ -88,7 +88,7 @@ page_by (Err name) = Err name
 unfoldable pub page_asked : List ℕ → Result Page QueryName
 page_asked query = page_by (given_by nothing_given (raw_pairs query))
 
--- the answer is what is meant, or want of memory
+-- the answer is what is meant, or out of memory
 abbrev pub IsAsMeant : {A : Type 0} → Result A PageError → Result A QueryName → Type 0
 IsAsMeant (Ok value) meant = meant ≡ Ok value
 IsAsMeant (Err (Bad name)) meant = meant ≡ Err name

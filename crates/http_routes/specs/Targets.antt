@@ -10,7 +10,7 @@ is_question byte = byte == 63
 abbrev pub is_slash : ℕ → Bool
 is_slash byte = byte == 47
 
--- what stands before a place and behind it, or all and nothing
+-- what stands before a place and after it, or all and nothing
 abbrev pub parted : List ℕ → Option ℕ → List ℕ × List ℕ
 parted target None = (target, [])
 parted target (Some place) = (take place target, drop (place + 1) target)

@@ -182,7 +182,7 @@ fn bodies_in_chunks_are_read(rt: HostRuntime) -> Result<(), Fail> {
     Ok(())
 }
 
-// The same of this text behind a head that announces chunks.
+// The same of this text after a head that announces chunks.
 fn chunks_tell(
     rt: &impl Abort,
     alloc: Global,
@@ -206,7 +206,7 @@ fn told(alloc: Global, bytes: &[u8]) -> Result<String, AllocError> {
 
 /// Cut at each of its bytes, a stream is answered the first events of the whole.
 #[test]
-fn what_a_front_is_answered_stays(rt: HostRuntime) -> Result<(), Fail> {
+fn what_a_prefix_is_answered_stays(rt: HostRuntime) -> Result<(), Fail> {
     let alloc = rt.alloc();
     let bytes =
         b"\r\nGET /a HTTP/1.1\r\nHost: h\r\n\r\nPOST /b HTTP/1.1\r\nHost: h\r\nExpect: 100-continue\r\nTransfer-Encoding: chunked\r\n\r\n2\r\nok\r\n0\r\n\r\nGET /c HTTP/2.0\r\nHost: h\r\n\r\n";

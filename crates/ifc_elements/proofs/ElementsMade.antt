@@ -30,8 +30,8 @@ use Rattle.ifc_elements.specs.Sound.{IsOut}
 use Rattle.ifc_elements.specs.Surfaces.{ItemSurface, moved, placed_by, IsSurface, IsBeyond}
 use Rattle.ifc_elements.specs.Framed.{AllFramed}
 use Rattle.ifc_elements.specs.ElementReadiness.{IsStanding, IsReady, IsFrameOf, IsNearSurface, IsNearElement, Lacks, LacksAt, IsFirstLacking}
-use Rattle.ifc_elements.specs.declared.lack.Lack.{Lack}
-use Rattle.ifc_elements.specs.declared.lack.Lack.TheVariants.{Beyond, Unready}
+use Rattle.ifc_elements.specs.declared.lack.ElementLack.{ElementLack}
+use Rattle.ifc_elements.specs.declared.lack.ElementLack.TheVariants.{Beyond, Unready}
 use Rattle.p21_values.proofs.ValueLemmas.{one}
 use Rattle.ifc_elements.proofs.OneSet.{same_triangle}
 use Rattle.ifc_elements.proofs.OneSurface.{same_map}
@@ -102,7 +102,7 @@ beyond_there world scale mode i frame own f are out = record {
 
 -- The element of a number.
 
-lack_there : (world : List Instance) (scale : Scale) (mode : Mode) (placements listed : List ℕ) (id : ℕ) (i : Instance) (lack : Lack) → look world id ≡ Some i → Lacks world scale mode placements listed i lack → LacksAt world scale mode placements listed id lack
+lack_there : (world : List Instance) (scale : Scale) (mode : Mode) (placements listed : List ℕ) (id : ℕ) (i : Instance) (lack : ElementLack) → look world id ≡ Some i → Lacks world scale mode placements listed i lack → LacksAt world scale mode placements listed id lack
 lack_there world scale mode placements listed id i Beyond found h = record { instance = i; found = found; holds = h }
 lack_there world scale mode placements listed id i Unready found h = λ f. h (subst (IsReady world scale mode placements listed) (one (look world id) f.instance i f.found found) f.holds)
 
@@ -118,7 +118,7 @@ id_of (j ∷ js) id i found = elim (cases_Bool (j.id == id)) [
   | inr f ↦ (let m = rw f at found in id_of js id i m)
 ]
 
-pub made_at : (world : List Instance) (scale : Scale) (mode : Mode) (placements listed : List ℕ) (id : ℕ) (i : Instance) (r : Result (Result Element Lack) AllocError) → look world id ≡ Some i
+pub made_at : (world : List Instance) (scale : Scale) (mode : Mode) (placements listed : List ℕ) (id : ℕ) (i : Instance) (r : Result (Result Element ElementLack) AllocError) → look world id ≡ Some i
     → (look world i.id ≡ Some i → IfOk r (λ made. MatchResult made (IsNearElement world scale mode i.id) (Lacks world scale mode placements listed i)))
     → IfOk r (λ made. MatchResult made (IsNearElement world scale mode id) (LacksAt world scale mode placements listed id))
 made_at world scale mode placements listed id i (Err e) found h = h (let same = id_of world id i found in subst (λ k. look world k ≡ Some i) (sym same) found)
@@ -151,7 +151,7 @@ made_before world scale mode ids at place (e ∷ es) before lt are =
     let near = zipped_at (IsNearElement world scale mode) ks made place (get_or ks place 0) (get_or made place e) are id there in
     (get_or made place e, subst (λ n. IsNearElement world scale mode n (get_or made place e)) (get_or-take at ids place 0 before) near)
 
-pub first_lacking : (world : List Instance) (scale : Scale) (mode : Mode) (placements listed ids : List ℕ) (at : ℕ) (made : List Element) (lack : Lack) → IsStrictlyIncreasing ids → at < length ids → AllZip (IsNearElement world scale mode) (take at ids) made
+pub first_lacking : (world : List Instance) (scale : Scale) (mode : Mode) (placements listed ids : List ℕ) (at : ℕ) (made : List Element) (lack : ElementLack) → IsStrictlyIncreasing ids → at < length ids → AllZip (IsNearElement world scale mode) (take at ids) made
     → LacksAt world scale mode placements listed (get_or ids at 0) lack → IsFirstLacking world scale mode placements listed ids (record { id = get_or ids at 0; lack = lack })
 first_lacking world scale mode placements listed ids at made lack up lt are h = record {
   here = Contains-get_or ids at 0 lt;

@@ -17,8 +17,8 @@ use Rattle.ifc_elements.specs.ElementTexts.{guid_of}
 use Rattle.ifc_elements.specs.Items.{bodies, body_items, item_count, count_of}
 use Rattle.ifc_elements.specs.Surfaces.{IsPlacedBy, IsSurface, IsBeyond}
 use Rattle.ifc_elements.specs.Elements.{IsElement}
-use Rattle.ifc_elements.specs.declared.lack.Lack.{Lack}
-use Rattle.ifc_elements.specs.declared.lack.Lack.TheVariants.{Beyond, Unready}
+use Rattle.ifc_elements.specs.declared.lack.ElementLack.{ElementLack}
+use Rattle.ifc_elements.specs.declared.lack.ElementLack.TheVariants.{Beyond, Unready}
 use Rattle.ifc_elements.specs.declared.lack.Lacking.{Lacking}
 use Rattle.ifc_elements.specs.Sound.{ReadyBody, Carries}
 
@@ -60,12 +60,12 @@ pub record IsNearElement (world : List Instance) (scale : Scale) (mode : Mode) (
   pub count : length element.triangles ≡ count_of world id
 
 -- why an element isn't made: it lies too far out, or what it needs isn't ready
-abbrev pub Lacks : List Instance → Scale → Mode → List ℕ → List ℕ → Instance → Lack → Type 0
+abbrev pub Lacks : List Instance → Scale → Mode → List ℕ → List ℕ → Instance → ElementLack → Type 0
 Lacks world scale mode placements listed i Beyond = IsBeyond world scale mode i
 Lacks world scale mode placements listed i Unready = IsReady world scale mode placements listed i → ⊥
 
 -- the same of the element of a number
-abbrev pub LacksAt : List Instance → Scale → Mode → List ℕ → List ℕ → ℕ → Lack → Type 0
+abbrev pub LacksAt : List Instance → Scale → Mode → List ℕ → List ℕ → ℕ → ElementLack → Type 0
 LacksAt world scale mode placements listed id Beyond = Finds world id (IsBeyond world scale mode)
 LacksAt world scale mode placements listed id Unready =
     Finds world id (IsReady world scale mode placements listed) → ⊥

@@ -2,7 +2,7 @@
 
 /// Why an instance makes no element of a model.
 #[derive(Clone, Copy)]
-pub enum Lack {
+pub enum ElementLack {
     /// A corner of it isn't in reach.
     Beyond,
     /// It isn't an element whose sets and placement are known. An earlier check names its fault.
@@ -13,5 +13,5 @@ pub enum Lack {
 #[derive(Clone, Copy)]
 pub struct Lacking {
     pub id: u64,
-    pub lack: Lack,
+    pub lack: ElementLack,
 }

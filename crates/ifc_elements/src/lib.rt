@@ -17,7 +17,7 @@ pub use body_items::{
     is_body_representation, is_item, is_mapped_item, spelled_items, spelled_sets,
 };
 pub use kept_sets::Sets;
-pub use lack::{Lack, Lacking};
+pub use lack::{ElementLack, Lacking};
 pub use model_elements::elements_of;
 pub use points::{kept_at, points_at, table_of};
 pub use shapes::{Shapes, bodies};

@@ -15,7 +15,7 @@ ghost use Rattle.ifc_elements.specs.StoreyNames.{AreNames};
 ghost use Rattle.ifc_elements.specs.ElementReadiness.{IsStanding, IsFrameOf, IsNearSurface, IsNearElement, Lacks, LacksAt, IsFirstLacking};
 
 use crate::kept_sets::Sets;
-use crate::lack::{Lack, Lacking};
+use crate::lack::{ElementLack, Lacking};
 use crate::shapes::Shapes;
 use crate::storey_names::Names;
 use crate::storeys::storey_name;
@@ -55,7 +55,7 @@ fn surface_of(
     instance: &InstanceRef<'_>,
     scale: Scale,
     mode: Mode,
-) -> Result<Result<Vec<Triangle>, Lack>, AllocError>
+) -> Result<Result<Vec<Triangle>, ElementLack>, AllocError>
     requires framed { AllFramed (frame_in frames.now) }
     requires shapes { AreShapes exchange.now shapes.now }
     ensures { (placements listed : List ℕ)
@@ -66,14 +66,14 @@ fn surface_of(
         (Lacks exchange.now scale mode placements listed instance.now)) }
 {
     let Some(frame) = frame_of(frames, instance) else {
-        return Ok(Err(Lack::Unready));
+        return Ok(Err(ElementLack::Unready));
     };
     let Some(own) = own_triangles(alloc, exchange, shapes, sets, instance, scale, mode)? else {
-        return Ok(Err(Lack::Unready));
+        return Ok(Err(ElementLack::Unready));
     };
     match all_moved(alloc, &frame, &own)? {
         Some(triangles) => Ok(Ok(triangles)),
-        None => Ok(Err(Lack::Beyond)),
+        None => Ok(Err(ElementLack::Beyond)),
     }
 }
 
@@ -89,7 +89,7 @@ fn element_of(
     instance: &InstanceRef<'_>,
     scale: Scale,
     mode: Mode,
-) -> Result<Result<Element, Lack>, AllocError>
+) -> Result<Result<Element, ElementLack>, AllocError>
     requires storeys { ListsStoreys exchange.now tree.now }
     requires names { AreNames exchange.now names.now }
     requires framed { AllFramed (frame_in frames.now) }
@@ -101,10 +101,10 @@ fn element_of(
         (Lacks exchange.now scale mode placements listed instance.now)) }
 {
     let Some(guid) = guid_of(alloc, instance)? else {
-        return Ok(Err(Lack::Unready));
+        return Ok(Err(ElementLack::Unready));
     };
     let Some(keyword) = instance.keyword() else {
-        return Ok(Err(Lack::Unready));
+        return Ok(Err(ElementLack::Unready));
     };
     match surface_of(alloc, exchange, frames, shapes, sets, instance, scale, mode)? {
         Ok(triangles) => Ok(Ok(Element {
@@ -130,7 +130,7 @@ fn element_at(
     id: u64,
     scale: Scale,
     mode: Mode,
-) -> Result<Result<Element, Lack>, AllocError>
+) -> Result<Result<Element, ElementLack>, AllocError>
     requires storeys { ListsStoreys exchange.now tree.now }
     requires names { AreNames exchange.now names.now }
     requires framed { AllFramed (frame_in frames.now) }
@@ -145,7 +145,7 @@ fn element_at(
         Some(instance) => element_of(
             alloc, exchange, tree, names, frames, shapes, sets, &instance, scale, mode,
         ),
-        None => Ok(Err(Lack::Unready)),
+        None => Ok(Err(ElementLack::Unready)),
     }
 }
 

@@ -40,6 +40,6 @@ led_one world v id instance is found = from (reference_of v) is
     from : (r : Option ℕ) → r ≡ Some id → filter_map (look world) (cons_option r []) ≡ instance ∷ []
     from r e = rw (e, found) refl
 
--- the first values, and those behind them
+-- the first values, and those after them
 pub led_parts : (world : List Instance) (vs : List Value21) (i : ℕ) → led_to world vs ≡ led_to world (take i vs) ++ led_to world (drop i vs)
 led_parts world vs i = ap (led_to world) (sym (take-append-drop i vs)) ∙ led_append world (take i vs) (drop i vs)

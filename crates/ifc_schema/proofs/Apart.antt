@@ -93,9 +93,6 @@ attribute_apart world m i a = by_bool (applies world m i a.when) (PlaceFlaw worl
 instance_apart : (world : List Instance) (m : Bool) (i : Instance) → Apart (InstanceFlaw world m i)
 instance_apart world m i = first_apart (AttributeFlaw world m i) (attribute_apart world m i) (row_at i)
 
-pub some_flaw : (world : List Instance) (m : Bool) (i : Instance) (flaw : Flaw) → InstanceFlaw world m i (Some flaw) → InstanceFlaw world m i None → ⊥
-some_flaw world m i flaw k h = instance_apart world m i flaw h k
-
 -- two tests of one thing give one answer
 pub one_test : (a b : Bool) (P : Type 0) → IsTrue a ↔ P → IsTrue b ↔ P → a ≡ b
 one_test true true P f g = refl

@@ -41,7 +41,7 @@ all_before : {X : Type 0} (P : X → Type 0) (x : X) (xs : List X) (n : ℕ) →
 all_before P x xs n p h zero l d = p
 all_before P x xs n p h (suc k) l d = h k (omega arith) d
 
--- or has none, and those behind it are asked,
+-- or has none, and those after it are asked,
 pub first_behind : {X : Type 0} (R : X → Option Flaw → Type 0) (x : X) (xs : List X) (f g : Option Flaw) → is_some f ≡ false → R x f → FirstFlaw R xs g → FirstFlaw R (x ∷ xs) g
 first_behind R x xs (Some flaw) g s h b = cc
 first_behind R x xs None None s h b = All-cons (λ y. R y None) x xs h b

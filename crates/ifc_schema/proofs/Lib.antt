@@ -4,7 +4,6 @@ pub mod Growing
 pub mod Following
 pub mod Listing
 pub mod Apart
-pub mod Rows
 pub mod Wholes
 pub mod OneFlaw
 pub mod SoundRows

@@ -66,7 +66,7 @@ passes_on Is xs ys zs p q = (p.0 ++ q.0, p.1 ∙ ap (λ l. p.0 ++ l) q.1 ∙ sym
 pub passes_weaker : {X : Type 0} (Is Was : X → Type 0) (xs ys : List X) → ((x : X) → Is x → Was x) → Passes Is xs ys → Passes Was xs ys
 passes_weaker Is Was xs ys f p = (p.0, p.1, All-weaker Is Was f p.0 p.2)
 
--- the next one behind them has the first flaw
+-- the next one after them has the first flaw
 pub flawed_behind : {X : Type 0} (R : X → Option Flaw → Type 0) (xs left rest : List X) (x : X) (f : Option Flaw) → Passes (λ y. R y None) xs left → left ≡ x ∷ rest → is_some f ≡ true → R x f → FirstFlaw R xs f
 flawed_behind R xs left rest x f p e some h =
     let whole : xs ≡ p.0 ++ x ∷ rest = p.1 ∙ ap (λ ys. p.0 ++ ys) e in

@@ -6,5 +6,4 @@ pub mod Flaws
 pub mod Used
 pub mod Surveys
 pub mod InstanceMarks
-pub mod EntityViews
 pub mod inner

@@ -80,7 +80,7 @@ pub record Surveyed (world : List Instance) (survey : Survey) : Type 0 where
   pub mapped : Lists (IsMapped world) (mapped_ids survey)
   pub elements : Lists (IsModelElement world) (element_ids survey)
 
--- why there is no survey: the file has that fault, or memory is wanting
+-- why there is no survey: the file has that fault, or memory runs out
 abbrev pub IsSurveyError : List Instance → BuildError → Type 0
 IsSurveyError world (Fault fault) = SurveyFault world fault
 IsSurveyError world Memory = Unit {0}

@@ -24,7 +24,7 @@ pub fn is_body(instance: &InstanceRef<'_>) -> bool
 }
 
 /// Whether it is a shape representation whose identifier is `Body`.
-pub fn is_body_representation(instance: &InstanceRef<'_>) -> bool
+fn is_body_representation(instance: &InstanceRef<'_>) -> bool
     ensures { result ≡ is_body_representation instance.now }
 {
     Entity::Representation.includes(instance) && is_body(instance)

@@ -184,7 +184,7 @@ fn is_sound(leaf: Leaf, inner: Count, row: ShortRow) -> bool
     }
 }
 
-/// What is left of rows behind those at the front that are short numbers and have no flaw.
+/// What is left of rows after those at the front that are short numbers and have no flaw.
 fn past_sound<'a>(leaf: Leaf, inner: Count, rows: Values<'a>) -> Values<'a>
     ensures { Passes (IsSound inner leaf) rows.entry result }
 {

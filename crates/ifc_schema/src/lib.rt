@@ -10,7 +10,6 @@ mod form;
 mod laws;
 mod outcome;
 mod surveying;
-mod views;
 mod visit;
 mod words;
 mod worklist;
@@ -20,10 +19,5 @@ pub use flaw::{Flaw, instance_flaw};
 pub use laws::one_survey_fault;
 pub use outcome::Survey;
 pub use surveying::{list_elements, survey};
-pub use views::{
-    AxisView, ElementView, FaceView, FacesetView, MappedView, OperatorView, PlacementView,
-    RepresentationView, axis_placement, element, faceset, mapped_item, operator, placement,
-    polygon_face, representation,
-};
 pub use visit::mark_used;
 pub use worklist::{Mark, Work};

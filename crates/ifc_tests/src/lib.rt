@@ -1,4 +1,4 @@
-//! Tests of what instances of IFC say: forms and views, units, storeys, whole models, and generated ones.
+//! Tests of what instances of IFC say: forms, units, storeys, whole models, and generated ones.
 #![tactic(auto)]
 
 #[cfg(test)]
@@ -15,5 +15,3 @@ mod survey_tests;
 mod tree_tests;
 #[cfg(test)]
 mod unit_tests;
-#[cfg(test)]
-mod view_tests;

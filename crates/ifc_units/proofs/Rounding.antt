@@ -54,11 +54,11 @@ power_most z h = pow-le-pow_right {n = 10} (omega arith) {i = z} {j = 38} h
 pub power_few : (z : ℕ) → z ≤ 15 → 10 ^ z ≤ 10 ^ 15
 power_few z h = pow-le-pow_right {n = 10} (omega arith) {i = z} {j = 15} h
 
--- behind 39 and 40 places so little is left that it is nothing, or lies between nothing and one
+-- after 39 and 40 places so little is left that it is nothing, or lies between nothing and one
 pub tiny_power : (z : ℕ) → 38 < z → 10 ^ 39 ≤ 10 ^ z
 tiny_power z h = pow-le-pow_right {n = 10} (omega arith) {i = 39} {j = z} h
 
--- behind so many places nothing is left
+-- after so many places nothing is left
 pub far_power : (z : ℕ) → 40 < z → 10 ^ 41 ≤ 10 ^ z
 far_power z h = pow-le-pow_right {n = 10} (omega arith) {i = 41} {j = z} h
 

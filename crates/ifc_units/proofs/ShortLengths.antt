@@ -1,4 +1,4 @@
--- A short number's length: the decimal that it is has its size in millimetres, also where zeros stand behind its digits.
+-- A short number's length: the decimal that it is has its size in millimetres, also where zeros stand after its digits.
 use Rattle.std.proofs.Common.{◌≡◌, ◌⊎◌, inl, inr, ℕ, zero, suc, ◌+◌, ◌-◌, ◌*◌, ◌/◌, ◌%◌, ◌^◌, ◌<◌, ◌≤◌, List, Bool, false, true, ℤ, pos, ◌+ℤ◌, ◌-ℤ◌, ◌*ℤ◌, refl, sym, ap, subst, ◌∙◌, arith}
 use Rattle.std.specs.Prelude.{unsigned_abs}
 use Rattle.std.proofs.lemmas.Int.{ints}
@@ -99,7 +99,7 @@ sizes_too mode m n g p q h is =
 
 -- The decimal that a short number is.
 
--- digits without the zeros behind them
+-- digits without the zeros after them
 record Stripped (n : ℕ) : Type 0 where
   pub m : ℕ
   pub z : ℕ

@@ -74,7 +74,7 @@ fn round_few(count: u64, parts: u64, mode: Mode) -> Option<u64>
     }
 }
 
-/// The size for so many digits with zeros behind them. None where it is beyond the greatest.
+/// The size for so many digits with zeros after them. None where it is beyond the greatest.
 #[tactic(auto, using(crate::proofs::Rounding::whole_sizes))]
 pub fn whole_size(digits: u128, zeros: u64) -> Option<u128>
     ensures size { IfSome result (λ g. g ≡ UNITS * (digits * 10 ^ zeros)) }
@@ -124,7 +124,7 @@ fn tiny_size(digits: u128, places: u64, mode: Mode) -> Option<u128>
     None
 }
 
-/// The size for so many digits of which the last `places` stand behind the point. None where it lies between two grid numbers.
+/// The size for so many digits of which the last `places` stand after the point. None where it lies between two grid numbers.
 #[tactic(auto, using(crate::proofs::Rounding::part_sizes))]
 pub fn part_size(digits: u128, places: u64, mode: Mode) -> Option<u128>
     requires { digits ≤ MOST_COUNT }

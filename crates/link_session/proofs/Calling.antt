@@ -13,13 +13,13 @@ use Rattle.bim_session.specs.declared.want.Want.TheVariants.{Write, Leave}
 use Rattle.bim_session.specs.Talking.{TalkState, BookReceipt, Replies}
 use Rattle.book_passes.specs.Lessons.{BookPass, CallerSeen, IsAnswered, caller_of, stamp_of}
 use Rattle.book_passes.proofs.Learning.{takes_call, takes_idly}
-use Rattle.link_session.specs.declared.session.Progress.{Progress}
-use Rattle.link_session.specs.declared.session.Progress.TheVariants.{Again, End}
+use Rattle.link_session.specs.declared.session.AfterStep.{AfterStep}
+use Rattle.link_session.specs.declared.session.AfterStep.TheVariants.{Again, End}
 use Rattle.link_session.specs.Callers.{Calls, steps_of}
 use Rattle.link_session.specs.inner.Loop.{Going, Called, Writing}
 
 wrote_for : (settings : Settings) (goes : Going) (call : BookRequest) (x y : SinkSeen) (talk talk' : TalkState) (server server' : CallerSeen) (waiting : Waiting)
-    (receipt : Result BookReceipt CallFault) (bytes : List ℕ) (result : Progress)
+    (receipt : Result BookReceipt CallFault) (bytes : List ℕ) (result : AfterStep)
     → talk.waits ≡ Some waiting → Calls settings call server receipt server' → goes server (steps_of call server receipt) server' → Replies receipt waiting talk (Write bytes) talk'
     → Writing talk.served x y bytes result → Called settings goes call x y talk server result talk' server'
 wrote_for settings goes call x y talk talk' server server' waiting receipt bytes Again waits calls went replies wrote =
@@ -32,7 +32,7 @@ some_of None P is p = cc
 some_of (Some k) P is p = (k, refl, p)
 
 pub wrote_call : (settings : Settings) (goes : Going) (call : BookRequest) (x y : SinkSeen) (talk talk' : TalkState) (server server' : CallerSeen)
-    (receipt : Result BookReceipt CallFault) (bytes : List ℕ) (result : Progress)
+    (receipt : Result BookReceipt CallFault) (bytes : List ℕ) (result : AfterStep)
     → IsSome talk.waits → Calls settings call server receipt server' → goes server (steps_of call server receipt) server'
     → IfSome talk.waits (λ waiting. Replies receipt waiting talk (Write bytes) talk') → Writing talk.served x y bytes result
     → Called settings goes call x y talk server result talk' server'

@@ -17,14 +17,14 @@ use Rattle.book_passes.specs.Lessons.{CallerSeen}
 use Rattle.link_session.proofs.SoFar.{Service, IsQuiet, SoFar, Finishes, start, stop_of}
 use Rattle.link_session.proofs.Growing.{leaves_some, open_of, plain_moments, plain_output, exchanged, needed_more, none_needed, first_most}
 
--- memory was wanting, or no turn was left
+-- memory ran out, or no turn was left
 pub ends_memory : (stop : Stop) (e : SessionEnd) → EndsMemory stop e → Ends stop e
 ends_memory stop e x = inr (inr (inr (inr (inr (inr (inr (inr (inl x))))))))
 
 pub ends_turns : (stop : Stop) (e : SessionEnd) → EndsTurns stop e → Ends stop e
 ends_turns stop e x = inr (inr (inr (inr (inr (inr (inr (inl x)))))))
 
--- memory was wanting in the work behind an answer
+-- memory ran out in the work after an answer
 pub ends_working : (stop : Stop) (e : SessionEnd) → EndsWorking stop e → Ends stop e
 ends_working stop e x = inr (inr (inr (inr (inr (inr (inr (inr (inr x))))))))
 
@@ -203,7 +203,7 @@ finish_met k v w a old server so e here over settled nothing (inr cut) empty =
     (finish_own k v w a a old server so [] (end.Cut old.served) here (cut_own old.served) (cut_turned old.served) (exchanges_none a) (refl, refl) empty
     (inr (inr (inl (ap end.Cut so.served, (let goes = open_of k v w a old server so here in goes.open_), (refl, refl, refl), so.ended_is over, (settled, (nothing, cut.0)))))))
 
--- it ends for want of memory, where no request was taken, or one was at its moment
+-- it ends out of memory, where no request was taken, or one was at its moment
 pub finish_short : (k : Service) (v : CallerSeen) (w a b : Outside) (old new : TalkState) (server : CallerSeen) (so : SoFar k v w a old server) (late : List ℕ)
     → old.leaving ≡ None → StopsShort so.rest so.told late new → Exchanges a b [] late [] → IsQuiet a b → EndsEmpty b.source
     → Finishes k v server w b (end.Memory old.served)
@@ -226,7 +226,7 @@ finish_short k v w a b old new server so late here stops gave quiet empty =
       taken = inl refl;
     })
 
--- it ends for want of memory where a piece was read that was not fed
+-- it ends out of memory where a piece was read that was not fed
 pub finish_unfed : (k : Service) (v : CallerSeen) (w a b : Outside) (old : TalkState) (server : CallerSeen) (so : SoFar k v w a old server) (piece : List ℕ)
     → old.leaving ≡ None → IsTold so.told so.rest → IsRest so.rest → IsOneRead a.source.most (length piece) → Exchanges a b piece [] [] → IsQuiet a b → EndsEmpty b.source
     → Finishes k v server w b (end.Memory old.served)
@@ -243,7 +243,7 @@ finish_unfed k v w a b old server so piece here settled nothing short gave quiet
     (ends_memory (stop_of (start k v server) so.events so.steps so.printed b.source.ended (so.rest ++ piece) so.told [] [] []) (end.Memory old.served)
     (ap end.Memory so.served, (let goes = open_of k v w a old server so here in goes.open_), refl, inl (refl, refl)))
 
--- it ends for want of memory, where nothing was done
+-- it ends out of memory, where nothing was done
 pub finish_memory : (k : Service) (v : CallerSeen) (w a : Outside) (old : TalkState) (server : CallerSeen) (so : SoFar k v w a old server)
     → old.leaving ≡ None → EndsEmpty a.source → Finishes k v server w a (end.Memory old.served)
 finish_memory k v w a old server so here empty =

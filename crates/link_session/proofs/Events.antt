@@ -49,7 +49,7 @@ use Rattle.link_session.proofs.Kept.{Keeps, keeps_grown, keeps_noted, shelved, u
 use Rattle.link_session.proofs.SoFar.{Service, SoFar, start}
 use Rattle.link_session.proofs.Turns.{step_in, above_all}
 
--- the answer that says that memory was wanting
+-- the answer that says that memory ran out
 pub lacks_answers : (s : Standing) (m : ℕ) (r : HttpRequest) (bytes : List ℕ) → IsResponse answer.Memory (kind_of r) None (closes_after r (s.served + 1)) bytes
     → Answers (asking s m r) bytes [] s.printed
 lacks_answers s m r bytes lacks = inr (inr (inr (record { response = lacks; idle = inl refl; printed_is = refl })))

@@ -229,7 +229,7 @@ or_true false = refl
 below : (n : ℕ) → n ≤ most_requests → n ≢ most_requests → n < most_requests
 below n le other = omega (arith, le, other)
 
--- how a session goes on behind the answer to the request of a number
+-- how a session goes on after the answer to the request of a number
 leaves_request : (stop : Stop) (n : ℕ) (close last : Bool) → stop.closed ≡ (close || last) → stop.standing.served ≡ n → n ≤ most_requests
     → (last ≡ true → n ≡ most_requests) → (last ≡ false → n ≢ most_requests) → IsBare stop
     → LeavesBy stop (if last then Some (end.Spent n) else (if (close || last) then Some (end.Asked n) else None))
@@ -243,7 +243,7 @@ leaves_request stop n false false closed served le is other bare = record {
   bare = bare;
 }
 
--- how a session is to end behind an event, before which so many requests were answered
+-- how a session is to end after an event, before which so many requests were answered
 abbrev pub leaving_behind : ℕ → Event → Option SessionEnd
 leaving_behind n frame.continue = None
 leaving_behind n (frame.request r) = leaving_after (n + 1) (closes_after r (n + 1))
@@ -299,7 +299,7 @@ needed_push most input events event needs = record {
       nothing = holds.nothing;
     })
 
--- one more event is answered, and the work behind it is done
+-- one more event is answered, and the work after it is done
 pub so_far_push : (k : Service) (v : CallerSeen) (w a b : Outside) (old new : TalkState) (server server' : CallerSeen) (so : SoFar k v w a old server)
     (event : Event) (later : List ℕ) (mark : Bool) (asked bytes : List ℕ) (own work : List Step) (printed : Printed)
     → old.leaving ≡ None → Reads so.rest so.told (event ∷ []) later mark → Stands new.framer later mark

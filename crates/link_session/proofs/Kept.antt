@@ -346,7 +346,7 @@ told_of settings h (ReadClashes id wanted first count) p v content named told =
     told_in settings h id wanted first count p v content (project_of settings.projects id) named refl told
 told_of settings h other p v content named told = cc
 
--- ---- the shelf behind a reply
+-- ---- the shelf after a reply
 
 -- a version on the shelf at some entries stays on it as the history grows, while it is live
 on_later : (settings : Settings) (front more : List Entry) (sets later : List (ℕ × ℕ)) (p v : ℕ) (content : Version) → OnShelf settings front sets p v content
@@ -452,7 +452,7 @@ module _ (settings : Settings) (call : BookRequest) (stamp : Stamp) (seen others
     pub holds_now : Holds settings (before ++ added) now sets
     holds_now = record { horizon = noted.horizon_is; each = each_now; all = all_now }
 
--- the shelf behind the reply to a call in a turn
+-- the shelf after the reply to a call in a turn
 pub keeps_noted : (settings : Settings) (call : BookRequest) (turn : ℕ) (told : BookReply) (v w : CallerSeen) (notes now : Notes) (printed : Printed) (step : Step)
     → Keeps settings v.seen notes printed → TakesCall settings call turn told v w → Noted turn (project_read call) told notes now
     → step ≡ record { stamp = stamp_in turn v; request = call } → Keeps settings w.seen now (printed_after step told printed)

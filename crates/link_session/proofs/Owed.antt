@@ -1,4 +1,4 @@
--- A request was answered: the work behind the answer, done or not.
+-- A request was answered: the work after the answer, done or not.
 use Rattle.std.proofs.Common.{◌≡◌, ◌⊎◌, ℕ, ◌+◌, ◌≤◌, List, [], ◌∷◌, ◌++◌, false, Some, None, inl, inr, ◌∙◌, ap, subst, refl, append_assoc, arith}
 use Rattle.bim_io.specs.StreamViews.{Outside, EndsEmpty, Exchanges}
 use Rattle.http_frame.specs.declared.types.HttpRequest.{HttpRequest}
@@ -81,7 +81,7 @@ module _ (k : Service) (v : CallerSeen) (w a b : Outside) (old new : TalkState) 
       (keeps_learnt k.settings mid later new.notes x.printed x.few lesson x.kept)
       gave quiet over x.served x.waits x.ended x.leaving
 
-  -- memory was wanting in the work
+  -- memory ran out in the work
   short_of : WorksShort (start k mid later) steps → EndsEmpty b.source → Finishes k v later w b (end.Memory new.served)
   short_of works empty =
       let served : new.served ≡ (0 + requests so.events) + 1 = x.served ∙ ap (λ n. n + 1) so.served in
@@ -105,7 +105,7 @@ module _ (k : Service) (v : CallerSeen) (w a b : Outside) (old new : TalkState) 
         short = short_behind (start k mid later) (last_turn (last_turn v.last so.steps) x.own) x.printed (0 + requests so.events + 1) steps in_step works;
       }))
 
--- a request was answered, and the work behind the answer is still to be done
+-- a request was answered, and the work after the answer is still to be done
 pub owed : (k : Service) (v : CallerSeen) (w a b : Outside) (old new : TalkState) (server mid : CallerSeen) (so : SoFar k v w a old server) (asked bytes : List ℕ)
     → Replied k v w a old new server mid so asked bytes → Exchanges a b [] asked bytes → IsQuiet a b → b.source.ended ≡ a.source.ended → Owes k v w b new mid
 owed k v w a b old new server mid so asked bytes x gave quiet over = record {

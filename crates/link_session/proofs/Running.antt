@@ -7,8 +7,8 @@ use Rattle.bim_session.specs.declared.end.SessionEnd.{SessionEnd}
 use Rattle.bim_session.specs.declared.end.SessionEnd.TheVariants as end
 use Rattle.bim_session.specs.Talking.{TalkState, IsOwnLeaving, KeepsNone, fresh}
 use Rattle.link_session.specs.inner.Loop.{StepsAndWorks}
-use Rattle.link_session.specs.declared.session.Progress.{Progress}
-use Rattle.link_session.specs.declared.session.Progress.TheVariants.{Again, End}
+use Rattle.link_session.specs.declared.session.AfterStep.{AfterStep}
+use Rattle.link_session.specs.declared.session.AfterStep.TheVariants.{Again, End}
 use Rattle.link_session.proofs.SoFar.{Service, SoFar, GoesBehind, Finishes}
 use Rattle.link_session.proofs.Growing.{fresh_of, so_far_start}
 use Rattle.link_session.proofs.Ending.{finish_leaving, finish_memory, some_end}
@@ -21,16 +21,16 @@ starts k v w talk turn stays stands is_fresh none last =
     so_far_start k v w talk stays (fresh_of talk stands is_fresh) (subst (λ (n : ℕ). KeepsNone n talk.notes) last none)
 
 -- the session goes on
-pub again : (k : Service) (v : CallerSeen) (w a b : Outside) (old new : TalkState) (server later : CallerSeen) (result : Progress) → SoFar k v w a old server
+pub again : (k : Service) (v : CallerSeen) (w a b : Outside) (old new : TalkState) (server later : CallerSeen) (result : AfterStep) → SoFar k v w a old server
     → StepsAndWorks k.settings k.buckets k.goes a b old server result new later → EndsEmpty b.source → result ≡ Again → SoFar k v w b new later
 again k v w a b old new server later result so steps empty is =
-    subst (λ (p : Progress). GoesBehind k v w b p new later) is (steps_and_works k v w a b old new server later result so steps empty)
+    subst (λ (p : AfterStep). GoesBehind k v w b p new later) is (steps_and_works k v w a b old new server later result so steps empty)
 
 -- the session ends
-pub ends : (k : Service) (v : CallerSeen) (w a b : Outside) (old new : TalkState) (server later : CallerSeen) (result : Progress) (e : SessionEnd) → SoFar k v w a old server
+pub ends : (k : Service) (v : CallerSeen) (w a b : Outside) (old new : TalkState) (server later : CallerSeen) (result : AfterStep) (e : SessionEnd) → SoFar k v w a old server
     → StepsAndWorks k.settings k.buckets k.goes a b old server result new later → EndsEmpty b.source → result ≡ End e → Finishes k v later w b e
 ends k v w a b old new server later result e so steps empty is =
-    subst (λ (p : Progress). GoesBehind k v w b p new later) is (steps_and_works k v w a b old new server later result so steps empty)
+    subst (λ (p : AfterStep). GoesBehind k v w b p new later) is (steps_and_works k v w a b old new server later result so steps empty)
 
 -- it was leaving
 pub leaves : (k : Service) (v : CallerSeen) (w a : Outside) (talk : TalkState) (server : CallerSeen) (o : Option SessionEnd) (e : SessionEnd) → SoFar k v w a talk server

@@ -15,11 +15,11 @@ use Rattle.bim_session.specs.Talking.{TalkState}
 use Rattle.link_session.specs.Callers.{CallerLaws, start_of}
 use Rattle.link_session.specs.inner.Loop.{Going}
 use Rattle.link_session.specs.CallerSessions.{Serves}
-use Rattle.link_session.specs.declared.session.Progress.{Progress}
-use Rattle.link_session.specs.declared.session.Progress.TheVariants.{Again, End}
+use Rattle.link_session.specs.declared.session.AfterStep.{AfterStep}
+use Rattle.link_session.specs.declared.session.AfterStep.TheVariants.{Again, End}
 use Rattle.link_session.proofs.Kept.{Keeps}
 
--- who calls the book: its settings, how many buckets it works behind answers, how it goes on, and the laws of that
+-- who calls the book: its settings, how many buckets it works after answers, how it goes on, and the laws of that
 pub record Service : Type 1 where
   pub settings : Settings
   pub buckets : Option ℕ
@@ -97,19 +97,19 @@ pub record SoFar (k : Service) (v : CallerSeen) (before now : Outside) (talk : T
   pub turned : (n : ℕ) → talk.leaving ≡ Some (end.SpentTurns n) → ⊥
   pub leaving : LeavesBy (stop_of (start k v server) events steps printed now.source.ended rest told late tail []) talk.leaving
 
--- a request was answered, and the work behind the answer is still to be done
+-- a request was answered, and the work after the answer is still to be done
 pub record Owes (k : Service) (v : CallerSeen) (before now : Outside) (talk : TalkState) (server : CallerSeen) : Type 0 where
   pub whole : (later : CallerSeen) (steps : List Step) → k.goes server steps later → Works (start k server later) steps → SoFar k v before now talk later
   pub short : (later : CallerSeen) (steps : List Step) → k.goes server steps later → WorksShort (start k server later) steps → EndsEmpty now.source
       → Finishes k v later before now (end.Memory talk.served)
 
 -- where a session stands after one step of it, before which so many requests were answered
-abbrev pub Goes : Service → CallerSeen → ℕ → Outside → Outside → Progress → TalkState → CallerSeen → Type 0
+abbrev pub Goes : Service → CallerSeen → ℕ → Outside → Outside → AfterStep → TalkState → CallerSeen → Type 0
 Goes k v served before now Again talk server =
     ((talk.served ≤ served) × SoFar k v before now talk server) ⊎ ((served < talk.served) × Owes k v before now talk server)
 Goes k v served before now (End e) talk server = Finishes k v server before now e
 
--- the same after the work behind the step
-abbrev pub GoesBehind : Service → CallerSeen → Outside → Outside → Progress → TalkState → CallerSeen → Type 0
+-- the same after the work after the step
+abbrev pub GoesBehind : Service → CallerSeen → Outside → Outside → AfterStep → TalkState → CallerSeen → Type 0
 GoesBehind k v before now Again talk server = SoFar k v before now talk server
 GoesBehind k v before now (End e) talk server = Finishes k v server before now e

@@ -30,8 +30,8 @@ use Rattle.bim_session.specs.Talking.{TalkState, BookReceipt, Wants, LacksNext, 
 use Rattle.link_session.specs.Callers.{LearnsBy, Calls, steps_of}
 use Rattle.link_session.specs.inner.Loop.{Reading, StopsReading, Writing, Called, StopsAnswering, Does, StepsOn}
 use Rattle.bim_io.specs.Writes.{WritesLess}
-use Rattle.link_session.specs.declared.session.Progress.{Progress}
-use Rattle.link_session.specs.declared.session.Progress.TheVariants.{Again, End}
+use Rattle.link_session.specs.declared.session.AfterStep.{AfterStep}
+use Rattle.link_session.specs.declared.session.AfterStep.TheVariants.{Again, End}
 use Rattle.link_session.proofs.Kept.{Keeps, unkept}
 use Rattle.link_session.proofs.SoFar.{Service, SoFar, Owes, Goes, Finishes, IsQuiet, LeavesBy, start, stop_of}
 use Rattle.link_session.proofs.Growing.{quiet_trans, exchanged, open_of, plain_moments, plain_output, leaving_behind, so_far_fed, so_far_push}
@@ -114,7 +114,7 @@ read_turned : (n : ℕ) → IsTurned (end.ReadFault n)
 read_turned n = λ k e. cc
 
 -- after a read
-goes_read : (k : Service) (v : CallerSeen) (w a b : Outside) (old mid new : TalkState) (server : CallerSeen) (result : Progress) → SoFar k v w a old server → Wants a.clock b.clock old More mid
+goes_read : (k : Service) (v : CallerSeen) (w a b : Outside) (old mid new : TalkState) (server : CallerSeen) (result : AfterStep) → SoFar k v w a old server → Wants a.clock b.clock old More mid
     → Reading a.source b.source mid result new → b.sink ≡ a.sink → EndsEmpty b.source → Goes k v old.served w b result new server
 goes_read k v w a b old mid new server Again so wants reading sink empty =
     let t = wants so.rest so.told so.stands in
@@ -246,7 +246,7 @@ replied_alone k v w a old mid server so moments bytes here x =
       leaving = ap (λ (z : TalkState). z.leaving) x.2;
     }
 
--- the stop where this was asked for and written behind the answers
+-- the stop where this was asked for and written after the answers
 abbrev stop_at : (k : Service) (v : CallerSeen) (w a b : Outside) (old : TalkState) (server : CallerSeen) → SoFar k v w a old server → List ℕ → List ℕ → Stop
 stop_at k v w a b old server so moments tail = stop_of (start k v server) so.events so.steps so.printed b.source.ended so.rest so.told moments tail []
 
@@ -319,7 +319,7 @@ next_alone : (k : Service) (v : CallerSeen) (w a b : Outside) (old mid : TalkSta
 next_alone k v w a b old mid server so moments tail bytes x = inl (x.event, x.later, x.mark, x.reads, (so.printed, x.answers))
 
 -- after what a talk wrote by itself
-goes_write : (k : Service) (v : CallerSeen) (w a b : Outside) (old mid new : TalkState) (server : CallerSeen) (bytes : List ℕ) (result : Progress) → SoFar k v w a old server
+goes_write : (k : Service) (v : CallerSeen) (w a b : Outside) (old mid new : TalkState) (server : CallerSeen) (bytes : List ℕ) (result : AfterStep) → SoFar k v w a old server
     → Wants a.clock b.clock old (Write bytes) mid → Writing old.served a.sink b.sink bytes result → b.source ≡ a.source → new ≡ mid → EndsEmpty b.source
     → Goes k v old.served w b result new server
 goes_write k v w a b old mid new server bytes Again so wants writing source same empty =
@@ -366,7 +366,7 @@ goes_write k v w a b old mid new server bytes (End e) so wants writing source sa
     of_kind moments here (inr (inl x)) = next_alone k v w a b old mid server so moments writing.1.0 bytes (alone_request k v w a old mid server so moments bytes x)
     of_kind moments here (inr (inr x)) = inr (x.0, fault_is k v w a b old mid server so moments writing.1.0 bytes x)
 
--- ---- the end, and want of memory
+-- ---- the end, and out of memory
 
 -- after the end of a talk
 goes_leave : (k : Service) (v : CallerSeen) (w a b : Outside) (old mid : TalkState) (server : CallerSeen) (e : SessionEnd) → SoFar k v w a old server → Wants a.clock b.clock old (Leave e) mid
@@ -389,7 +389,7 @@ goes_leave k v w a b old mid server e so wants own source sink empty =
         (so_far_same k v w a b old server so gave (source_quiet a.source b.source source, sink_quiet a.sink b.sink sink) (ap (λ (z : SourceSeen). z.ended) source)) e met.0 met.1
         met.2 met.3 met.4 empty
 
--- after want of memory for what comes next
+-- after out of memory for what comes next
 goes_lacks : (k : Service) (v : CallerSeen) (w a b : Outside) (old new : TalkState) (server : CallerSeen) → SoFar k v w a old server → LacksNext a.clock b.clock old new
     → b.source ≡ a.source → b.sink ≡ a.sink → EndsEmpty b.source → Finishes k v server w b (end.Memory old.served)
 goes_lacks k v w a b old new server so lacks source sink empty =
@@ -541,7 +541,7 @@ wrote_called k v w a b old mid new server server' so call waiting x receipt byte
 
 -- ---- a call that ends the session
 
--- where it stops, behind the answers
+-- where it stops, after the answers
 abbrev stop_called : (k : Service) (v : CallerSeen) (w a b : Outside) (old mid : TalkState) (server server' : CallerSeen) (so : SoFar k v w a old server) (call : BookRequest) (waiting : Waiting)
     → Asks k v w a b old mid server so call waiting → List ℕ → List Step → Stop
 stop_called k v w a b old mid server server' so call waiting x tail more =
@@ -560,7 +560,7 @@ ends_called k v w a b old mid server server' so call waiting x receipt e goes so
     (known_then k v w a b old mid server server' so call waiting x receipt goes) turned
     (answered_then k v w a b old mid server server' so call waiting x receipt goes) ends
 
--- memory was wanting, and the request may have taken a turn
+-- memory ran out, and the request may have taken a turn
 lacked_called : (k : Service) (v : CallerSeen) (w a b : Outside) (old mid : TalkState) (server server' : CallerSeen) (so : SoFar k v w a old server) (call : BookRequest) (waiting : Waiting)
     (x : Asks k v w a b old mid server so call waiting) (receipt : Result BookReceipt CallFault) → k.goes server (steps_of call server receipt) server'
     → b.source ≡ a.source → b.sink ≡ a.sink → EndsEmpty b.source
@@ -681,7 +681,7 @@ cut_called k v w a b old mid server server' so call waiting x receipt bytes late
     ))))))
 
 -- after a call of the book
-goes_call : (k : Service) (v : CallerSeen) (w a b : Outside) (old mid new : TalkState) (server server' : CallerSeen) (call : BookRequest) (result : Progress) → SoFar k v w a old server
+goes_call : (k : Service) (v : CallerSeen) (w a b : Outside) (old mid new : TalkState) (server server' : CallerSeen) (call : BookRequest) (result : AfterStep) → SoFar k v w a old server
     → Wants a.clock b.clock old (Call call) mid → Called k.settings k.goes call a.sink b.sink mid server result new server' → b.source ≡ a.source
     → EndsEmpty b.source → Goes k v old.served w b result new server'
 goes_call k v w a b old mid new server server' call Again so wants called source empty =
@@ -705,7 +705,7 @@ goes_call k v w a b old mid new server server' call (End e) so wants called sour
 
 -- ---- a step
 
-done : (k : Service) (v : CallerSeen) (w a b : Outside) (old mid new : TalkState) (server server' : CallerSeen) (want : Want) (result : Progress) → SoFar k v w a old server
+done : (k : Service) (v : CallerSeen) (w a b : Outside) (old mid new : TalkState) (server server' : CallerSeen) (want : Want) (result : AfterStep) → SoFar k v w a old server
     → Wants a.clock b.clock old want mid → IsOwnWant want → Does k.settings k.goes old.served a b mid server want result new server' → EndsEmpty b.source
     → Goes k v old.served w b result new server'
 done k v w a b old mid new server server' More result so wants own does empty =
@@ -715,15 +715,15 @@ done k v w a b old mid new server server' (Write bytes) result so wants own does
 done k v w a b old mid new server server' (Call call) result so wants own does empty =
     goes_call k v w a b old mid new server server' call result so wants does.0 does.1 empty
 done k v w a b old mid new server server' (Leave e) result so wants own does empty =
-    subst (λ (p : Progress). Goes k v old.served w b p new server') (sym does.0)
+    subst (λ (p : AfterStep). Goes k v old.served w b p new server') (sym does.0)
     (subst (λ (z : CallerSeen). Finishes k v z w b e) (sym does.3) (goes_leave k v w a b old mid server e so wants own does.1 does.2 empty))
 
 -- after a step of a session
-pub steps_on : (k : Service) (v : CallerSeen) (w a b : Outside) (old new : TalkState) (server server' : CallerSeen) (result : Progress) → SoFar k v w a old server
+pub steps_on : (k : Service) (v : CallerSeen) (w a b : Outside) (old new : TalkState) (server server' : CallerSeen) (result : AfterStep) → SoFar k v w a old server
     → StepsOn k.settings k.goes a b old server result new server' → EndsEmpty b.source → Goes k v old.served w b result new server'
 steps_on k v w a b old new server server' result so (inl (want, mid, wants, own, does)) empty =
     done k v w a b old mid new server server' want result so wants own does empty
 steps_on k v w a b old new server server' result so (inr stopped) empty =
-    subst (λ (p : Progress). Goes k v old.served w b p new server') (sym stopped.1)
+    subst (λ (p : AfterStep). Goes k v old.served w b p new server') (sym stopped.1)
     (subst (λ (z : CallerSeen). Finishes k v z w b (end.Memory old.served)) (sym stopped.4)
     (goes_lacks k v w a b old new server so stopped.0 stopped.2 stopped.3 empty))

@@ -1,4 +1,4 @@
--- The work behind an answer, by where a session stands.
+-- The work after an answer, by where a session stands.
 use Rattle.std.proofs.Common.{◌≡◌, ◌⊎◌, ℕ, zero, suc, ◌+◌, ◌*◌, ◌<◌, ◌≤◌, List, [], ◌∷◌, Option, Some, None, inl, inr, refl, sym, subst, arith}
 use Rattle.book_history.specs.Runs.{Step}
 use Rattle.bim_session.specs.Works.{Standing, Printed, IsTaken, Gives, WorksOne, WorksOn, Works, WorksShort, IsEnough, IsMore, left_behind}
@@ -86,7 +86,7 @@ none_works s none = record {
 
 -- ---- both
 
--- the work behind an answer stands for a session whose last turn is the caller's, or where no bucket is worked
+-- the work after an answer stands for a session whose last turn is the caller's, or where no bucket is worked
 pub works_behind : (s : Standing) (l : ℕ) (p : Printed) (n : ℕ) (steps : List Step) → (s.buckets ≡ Some 0) ⊎ (s.last ≡ l) → Works s steps → Works (moved s l p n) steps
 works_behind s l p n steps (inl none) works =
     let few = few_of s.buckets works.count (left_behind s (s.last + 2 * works.count)) none works.enough in

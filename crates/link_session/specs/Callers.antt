@@ -20,7 +20,7 @@ use Rattle.bim_session.specs.Talking.{BookReceipt}
 abbrev pub Skips : CallerSeen → CallerSeen → Type 0
 Skips v w = (w ≡ v) ⊎ ((turn : ℕ) × (others : List Entry) × TakesTurn turn others [] v w)
 
--- A call takes a turn and is answered at the entries below it; or memory is wanting, and nothing is added; or the pass has
+-- A call takes a turn and is answered at the entries below it; or memory runs out, and nothing is added; or the pass has
 -- made all its turns, and nothing happens.
 abbrev pub Calls : Settings → BookRequest → CallerSeen → Result BookReceipt CallFault → CallerSeen → Type 0
 Calls settings request v (Ok receipt) w = TakesCall settings request receipt.turn receipt.reply v w
@@ -32,11 +32,11 @@ abbrev pub steps_of : BookRequest → CallerSeen → Result BookReceipt CallFaul
 steps_of request v (Ok receipt) = record { stamp = stamp_in receipt.turn v; request = request } ∷ []
 steps_of request v (Err fault) = []
 
--- it came to see some entries behind those that it had seen
+-- it came to see some entries after those that it had seen
 abbrev pub LearnsBy : CallerSeen → CallerSeen → Type 0
 LearnsBy v w = (news : List Entry) × Learns v w news
 
--- How a caller goes on that works at most so many buckets behind answers: by steps one after another; what it has seen is
+-- How a caller goes on that works at most so many buckets after answers: by steps one after another; what it has seen is
 -- a front of what it sees later; and where it works buckets, its last turn is that of its last step.
 pub record CallerLaws (buckets : Option ℕ)
     (goes : CallerSeen → List Step → CallerSeen → Type 0) : Type 0 where
@@ -46,7 +46,7 @@ pub record CallerLaws (buckets : Option ℕ)
   pub in_step : (v w : CallerSeen) (steps : List Step) → goes v steps w
       → (buckets ≡ Some 0) ⊎ (w.last ≡ last_turn v.last steps)
 
--- ---- work behind an answer
+-- ---- work after an answer
 
 -- where a session begins by the caller v, which ends as w: its history is what w has seen, and its steps take turns behind
 -- the last of v and up to the last of w
@@ -61,7 +61,7 @@ start_of settings buckets v w = record {
   served = 0;
 }
 
--- the work behind an answer was done by some steps, or memory was wanting in it
+-- the work after an answer was done by some steps, or memory ran out in it
 abbrev pub WorksBehind : Settings → Option ℕ → (CallerSeen → List Step → CallerSeen → Type 0) → CallerSeen
     → Result (Unit {0}) AllocError → CallerSeen → Type 0
 WorksBehind settings buckets goes v (Ok u) w =
@@ -86,7 +86,7 @@ abbrev pub AreWithin : ℕ → List Step → Type 0
 AreWithin top [] = Unit {0}
 AreWithin top (s ∷ ss) = (s.stamp.turn ≤ top) × AreWithin top ss
 
--- It went from v to w by these steps: of the entries behind those that v had seen, the ones that carry the pass are just
+-- It went from v to w by these steps: of the entries after those that v had seen, the ones that carry the pass are just
 -- those that the steps added, in their order.
 pub record GoesByPass (v : CallerSeen) (steps : List Step) (w : CallerSeen) : Type 0 where
   pub alone : v.numbers ≡ v.number ∷ []

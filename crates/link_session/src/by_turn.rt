@@ -14,7 +14,7 @@ use federation_book::Book;
 use std::alloc::AllocError;
 use std::sync::Wait;
 
-/// A caller by a pass, which asks a gate before each call. It does no work behind answers: others do.
+/// A caller by a pass, which asks a gate before each call. It does no work after answers: others do.
 #[derive(Drop)]
 pub struct ByTurn<'a, R: Wait, G: Gate> {
     pub rt: &'a R,
@@ -45,6 +45,7 @@ impl<'a, R: Wait, G: Gate> Caller for ByTurn<'a, R, G> {
     }
 
     fn work(&self, own: &mut Pass<Book>) -> Result<(), AllocError> {
+        // For the proof alone: the pass is as it was.
         let _own = own;
         Ok(())
     }

@@ -12,7 +12,7 @@ use book_turn::turn::Receipt;
 use federation_book::Book;
 use std::alloc::AllocError;
 
-/// Who calls the book for a session, and works behind its answers: by a turn that threads share, or alone.
+/// Who calls the book for a session, and works after its answers: by a turn that threads share, or alone.
 ///
 /// Its steps are the calls that were answered. `goes` says what is known when it went from the one to the other by these
 /// steps, whatever else happened.
@@ -23,7 +23,7 @@ pub trait Caller {
     /// The settings of the book.
     ghost settings: { Self → Settings };
 
-    /// How many buckets are worked behind each answered request at most.
+    /// How many buckets are worked after each answered request at most.
     ghost buckets: { Self → Option ℕ };
 
     /// What is its own belongs to it.
@@ -47,7 +47,7 @@ pub trait Caller {
         ensures calls { Calls (settings self.now) request (seen own.old) result (seen own.new) }
         ensures goes { goes self.now (seen own.old) (steps_of request (seen own.old) result) (seen own.new) };
 
-    /// Works buckets behind an answer. An `Err` says that memory was wanting before all were worked.
+    /// Works buckets after an answer. An `Err` says that memory ran out before all were worked.
     fn work(&self, own: &mut Self::Own) -> Result<(), AllocError>
         requires fits { fits self.now own.old }
         ensures fits { fits self.now own.new }

@@ -10,4 +10,4 @@ mod session;
 pub use by_turn::ByTurn;
 pub use caller::Caller;
 pub use link::serve_link;
-pub use session::{Progress, run_session};
+pub use session::{AfterStep, run_session};

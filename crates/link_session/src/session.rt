@@ -14,35 +14,35 @@ use std::alloc::Global;
 
 /// Whether a session goes on after a step.
 #[derive(Clone, Copy, Debug, PartialEq, Eq)]
-pub enum Progress {
+pub enum AfterStep {
     Again,
     End(SessionEnd),
 }
 
-fn read_more<S: Source>(talk: &mut Talk, source: &mut S) -> Progress
+fn read_more<S: Source>(talk: &mut Talk, source: &mut S) -> AfterStep
     requires { talk.old.ended ≡ false }
     ensures { Reading (S.seen source.old) (S.seen source.new) talk.old result talk.new }
 {
     let mut room = [0u8; MOST_READ];
     match source.read(&mut room) {
         Ok(count) => match talk.feed(&room[..count]) {
-            Ok(()) => Progress::Again,
-            Err(_) => Progress::End(SessionEnd::Memory {
+            Ok(()) => AfterStep::Again,
+            Err(_) => AfterStep::End(SessionEnd::Memory {
                 served: talk.served(),
             }),
         },
-        Err(_) => Progress::End(SessionEnd::ReadFault {
+        Err(_) => AfterStep::End(SessionEnd::ReadFault {
             served: talk.served(),
         }),
     }
 }
 
-fn write_bytes<K: Sink>(served: u64, sink: &mut K, bytes: &[u8]) -> Progress
+fn write_bytes<K: Sink>(served: u64, sink: &mut K, bytes: &[u8]) -> AfterStep
     ensures { Writing served (K.seen sink.old) (K.seen sink.new) bytes.now result }
 {
     match write_whole(sink, bytes) {
-        Ok(()) => Progress::Again,
-        Err(_) => Progress::End(SessionEnd::WriteFault { served }),
+        Ok(()) => AfterStep::Again,
+        Err(_) => AfterStep::End(SessionEnd::WriteFault { served }),
     }
 }
 
@@ -53,7 +53,7 @@ fn call_book<B: Caller, K: Sink>(
     own: &mut B::Own,
     sink: &mut K,
     call: BookRequest,
-) -> Progress
+) -> AfterStep
     requires waits { IsSome talk.old.waits }
     requires leaving { talk.old.leaving ≡ None }
     requires fits { B.fits caller.now own.old }
@@ -67,10 +67,10 @@ fn call_book<B: Caller, K: Sink>(
     let receipt = caller.call(own, call);
     match talk.answer(receipt) {
         Ok(Want::Write(bytes)) => write_bytes(served, sink, bytes.as_slice()),
-        Ok(Want::Leave(end)) => Progress::End(end),
+        Ok(Want::Leave(end)) => AfterStep::End(end),
         Ok(Want::More) => unreachable!(),
         Ok(Want::Call(_)) => unreachable!(),
-        Err(_) => Progress::End(SessionEnd::Memory { served }),
+        Err(_) => AfterStep::End(SessionEnd::Memory { served }),
     }
 }
 
@@ -82,7 +82,7 @@ fn take_step<B: Caller, S: Source, K: Sink, C: Clock>(
     source: &mut S,
     sink: &mut K,
     clock: &mut C,
-) -> Progress
+) -> AfterStep
     requires idle { talk.old.waits ≡ None }
     requires fits { B.fits caller.now own.old }
     ensures fits { B.fits caller.now own.new }
@@ -96,13 +96,13 @@ fn take_step<B: Caller, S: Source, K: Sink, C: Clock>(
         Ok(Want::More) => read_more(talk, source),
         Ok(Want::Write(bytes)) => write_bytes(served, sink, bytes.as_slice()),
         Ok(Want::Call(call)) => call_book(talk, caller, own, sink, call),
-        Ok(Want::Leave(end)) => Progress::End(end),
-        Err(_) => Progress::End(SessionEnd::Memory { served }),
+        Ok(Want::Leave(end)) => AfterStep::End(end),
+        Err(_) => AfterStep::End(SessionEnd::Memory { served }),
     }
 }
 
-// The work behind an answer.
-fn work_behind<B: Caller>(served: u64, caller: &B, own: &mut B::Own) -> Progress
+// The work after an answer.
+fn work_behind<B: Caller>(served: u64, caller: &B, own: &mut B::Own) -> AfterStep
     requires fits { B.fits caller.now own.old }
     ensures fits { B.fits caller.now own.new }
     ensures works { WorksOn (B.settings caller.now) (B.buckets caller.now) (B.goes caller.now) served
@@ -110,12 +110,12 @@ fn work_behind<B: Caller>(served: u64, caller: &B, own: &mut B::Own) -> Progress
         result (B.seen own.new) }
 {
     match caller.work(own) {
-        Ok(()) => Progress::Again,
-        Err(_) => Progress::End(SessionEnd::Memory { served }),
+        Ok(()) => AfterStep::Again,
+        Err(_) => AfterStep::End(SessionEnd::Memory { served }),
     }
 }
 
-// Does what the talk wants, and behind the answer to a request the caller's work.
+// Does what the talk wants, and after the answer to a request the caller's work.
 fn step_and_work<B: Caller, S: Source, K: Sink, C: Clock>(
     talk: &mut Talk,
     caller: &B,
@@ -123,7 +123,7 @@ fn step_and_work<B: Caller, S: Source, K: Sink, C: Clock>(
     source: &mut S,
     sink: &mut K,
     clock: &mut C,
-) -> Progress
+) -> AfterStep
     requires idle { talk.old.waits ≡ None }
     requires fits { B.fits caller.now own.old }
     ensures fits { B.fits caller.now own.new }
@@ -134,19 +134,19 @@ fn step_and_work<B: Caller, S: Source, K: Sink, C: Clock>(
 {
     let served = talk.served();
     match take_step(talk, caller, own, source, sink, clock) {
-        Progress::Again => {
+        AfterStep::Again => {
             let now = talk.served();
             if now > served {
                 work_behind(now, caller, own)
             } else {
-                Progress::Again
+                AfterStep::Again
             }
         }
-        Progress::End(end) => Progress::End(end),
+        AfterStep::End(end) => AfterStep::End(end),
     }
 }
 
-/// Reads requests, and answers them by the caller, until the session ends; behind each answered request the caller works.
+/// Reads requests, and answers them by the caller, until the session ends; after each answered request the caller works.
 /// What the caller had seen is a front of what it has seen; each reply that prints a turn is the book's at the entries
 /// below that turn, or, of clashes that the session was answered before, at the entries up to the turn printed last.
 pub fn run_session<B: Caller, S: Source, K: Sink, C: Clock>(
@@ -172,8 +172,8 @@ pub fn run_session<B: Caller, S: Source, K: Sink, C: Clock>(
     // No session comes near so many steps: each one answers, or reads a piece of a request whose bytes are bounded.
     'steps: for _ in 0..u64::MAX {
         match step_and_work(&mut talk, caller, own, source, sink, clock) {
-            Progress::Again => {}
-            Progress::End(end) => return end,
+            AfterStep::Again => {}
+            AfterStep::End(end) => return end,
         }
     }
     match talk.leaving() {

@@ -33,7 +33,7 @@ use Rattle.model_build.specs.Stages.{ReachStage}
 use Rattle.ifc_elements.specs.ElementReadiness.{IsNearElement, IsFirstLacking, LacksAt}
 use Rattle.model_build.specs.inner.Outcomes.{IsOpened, AreReady}
 use Rattle.ifc_elements.specs.declared.lack.Lacking.{Lacking}
-use Rattle.ifc_elements.specs.declared.lack.Lack.TheVariants.{Beyond, Unready}
+use Rattle.ifc_elements.specs.declared.lack.ElementLack.TheVariants.{Beyond, Unready}
 use Rattle.ifc_elements.proofs.OneSurface.{one_surface}
 use Rattle.model_build.proofs.ElementsReady.{count_some}
 

@@ -35,7 +35,7 @@ Profile bytes mode (Ok elements) =
 Profile bytes mode (Err fault) =
     HasFault bytes fault ⊎ ((world : List Instance) × SpellsExchange bytes world × FileFault world mode fault)
 
--- why there is no model; want of memory is free
+-- why there is no model; out of memory is always allowed
 abbrev pub IsCause : List ℕ → Mode → BuildError → Type 0
 IsCause bytes mode (errors.Fault fault) = Profile bytes mode (Err fault)
 IsCause bytes mode errors.Memory = Unit {0}

@@ -20,6 +20,6 @@ pub struct File {
     pub mode: Mode,
     /// The storeys that objects stand in.
     pub tree: Tree,
-    /// The placements that elements name, each behind the one that it stands in.
+    /// The placements that elements name, each after the one that it stands in.
     pub chains: Chains,
 }

@@ -19,7 +19,7 @@ use crate::judged_file::File;
 use crate::length_faults::first_length_fault;
 use crate::order::in_order;
 use bim_model::{BuildError, Items, Mode, Model, Point, UploadFault};
-use ifc_elements::{Lack, Names, Sets, Shapes, elements_of, table_of};
+use ifc_elements::{ElementLack, Names, Sets, Shapes, elements_of, table_of};
 use ifc_schema::survey;
 use ifc_units::length_unit;
 use p21_table::Exchange;
@@ -196,8 +196,8 @@ fn model_of(
     )? {
         Ok(elements) => Ok(Model::of(alloc, in_order(elements))?),
         Err(lacking) => match lacking.lack {
-            Lack::Beyond => Err(BuildError::Fault(UploadFault::TooFar { id: lacking.id })),
-            Lack::Unready => unreachable!(),
+            ElementLack::Beyond => Err(BuildError::Fault(UploadFault::TooFar { id: lacking.id })),
+            ElementLack::Unready => unreachable!(),
         },
     }
 }

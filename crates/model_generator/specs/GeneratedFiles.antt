@@ -3,7 +3,7 @@ use Rattle.std.specs.Prelude.{ℕ, zero, suc, ◌+◌, List, ◌++◌}
 use Rattle.model_generator.specs.Cuboids.{cuboid_of}
 use Rattle.model_generator.specs.InstanceLines.{head, end, element_lines}
 
--- the lines of so many elements, from that place on, and those behind them
+-- the lines of so many elements, from that place on, and those after them
 abbrev pub rest_from : ℕ → ℕ → ℕ → List ℕ
 rest_from number place zero = end
 rest_from number place (suc count) =

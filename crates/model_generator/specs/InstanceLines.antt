@@ -17,7 +17,7 @@ head =
     ++ codes "#1=IFCPROJECT('0000000000000000000001',$,'P',$,$,$,$,(),#2);\n"
     ++ codes "#2=IFCUNITASSIGNMENT((#3));\n#3=IFCSIUNIT(*,.LENGTHUNIT.,.MILLI.,.METRE.);\n"
 
--- the lines behind them
+-- the lines after them
 unfoldable pub end : List ℕ
 end = codes "ENDSEC;\nEND-ISO-10303-21;\n"
 

@@ -31,7 +31,7 @@ pub fn head() -> &'static str
     HEAD
 }
 
-/// The lines behind them.
+/// The lines after them.
 #[tactic(auto, unfolding(crate::specs::InstanceLines::end))]
 pub fn end() -> &'static str
     ensures { result.now ≡ end }
@@ -179,7 +179,7 @@ fn guid_back(alloc: Global, number: u32) -> Result<String, AllocError>
     format!(in alloc; "{third}{fourth}{fifth}")
 }
 
-// The identifier of a number below 100,000: its five digits behind seventeen zeros.
+// The identifier of a number below 100,000: its five digits after seventeen zeros.
 fn guid_of(alloc: Global, number: u32) -> Result<String, AllocError>
     ensures { IfOk result (λ text. string_bytes text ≡ guid_of number) }
 {

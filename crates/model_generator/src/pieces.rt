@@ -46,7 +46,7 @@ impl Model for Pieces {
         (p.state ≡ state_at p.number (6 * p.place)) × (p.place + p.left ≤ MOST_GENERATED) };
 }
 
-// The lines of the element of that place, from the state before it, and the state behind it.
+// The lines of the element of that place, from the state before it, and the state after it.
 fn next_element(alloc: Global, state: u64, place: u32) -> Result<(String, u64), AllocError>
     requires { place < MOST_GENERATED }
     ensures lines { (number : ℕ) → state ≡ state_at number (6 * place)

@@ -45,7 +45,7 @@ equal Less l r = cc
 equal Equal l r = refl
 equal Greater l r = cc
 
--- of two that are the same, in order, the one behind the first is the same too
+-- of two that are the same, in order, the one after the first is the same too
 sorted_differ : (ys : List (List ℕ)) → IsSorted (slice_cmp nat_cmp) ys → Alternate ys → AllPairs (λ a b. a ≢ b) ys
 sorted_differ ys up beside i j d lt within same =
     let a = get_or ys i d in

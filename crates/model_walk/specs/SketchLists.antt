@@ -11,7 +11,7 @@ use Rattle.walk_rows.specs.Pools.{slot_in}
 abbrev pub range_in : List Range → ℕ → Range
 range_in ranges at = slice_index_or ranges at (record { from = 0; to = 0; count = 0 })
 
--- the sketch of which a note tells where its frame and its range are kept
+-- the sketch of which a note says where its frame and its range are kept
 abbrev pub sketch_in : List Frame → List Range → Note → Sketch
 sketch_in frames ranges note = record {
   frame = slot_in frames note.frame;
@@ -23,7 +23,7 @@ pub record IsNoted (frames ranges : ℕ) (note : Note) : Type 0 where
   pub frame : note.frame ≤ frames
   pub range : note.range < ranges
 
--- a list grew behind its end, or is the same
+-- a list grew after its end, or is the same
 pub record IsLonger {T : Type 0} (old new : List T) : Type 0 where
   pub more : List T
   pub grown : new ≡ old ++ more

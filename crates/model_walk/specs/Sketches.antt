@@ -32,7 +32,7 @@ abbrev pub piece_triangles : List (Option (List Point)) → List (Option SetRows
 piece_triangles points sets piece =
     map (placed_by piece.operator) (kept_triangles points (pooled sets piece.set))
 
--- those of pieces, one behind another
+-- those of pieces, one after another
 abbrev pub pieces_triangles : List (Option (List Point)) → List (Option SetRows) → List Piece → List Triangle
 pieces_triangles points sets pieces = flat_map (piece_triangles points sets) pieces
 
@@ -40,7 +40,7 @@ pieces_triangles points sets pieces = flat_map (piece_triangles points sets) pie
 abbrev pub pieces_in : List Piece → Range → List Piece
 pieces_in pieces range = take (range.to - range.from) (drop range.from pieces)
 
--- the triangles of a shape, one piece behind another
+-- the triangles of a shape, one piece after another
 abbrev pub range_triangles : Stock → Range → List Triangle
 range_triangles stock range = pieces_triangles stock.points stock.sets (pieces_in stock.pieces.items range)
 

@@ -43,7 +43,7 @@ impl Model for Sketches {
     ghost invariant = { λ s. All (IsNoted (length s.frames.items) (length s.ranges.items)) s.notes.items };
 }
 
-/// Keeps a frame, and tells where, from 1 on; 0 where there is none.
+/// Keeps a frame, and says where, from 1 on; 0 where there is none.
 fn keep_frame(frames: &mut Vec<Frame>, frame: Option<Frame>) -> Result<u32, AllocError>
     ensures longer { IsLonger frames.old.items frames.new.items }
     ensures keeps { IfOk result (KeepsFrame frame frames.new.items) }
@@ -58,7 +58,7 @@ fn keep_frame(frames: &mut Vec<Frame>, frame: Option<Frame>) -> Result<u32, Allo
     Ok(frames.as_slice().len() as u32)
 }
 
-/// Keeps a range, and tells where.
+/// Keeps a range, and says where.
 fn keep_range(ranges: &mut Vec<Range>, range: Range) -> Result<u32, AllocError>
     ensures longer { IsLonger ranges.old.items ranges.new.items }
     ensures keeps { IfOk result (KeepsRange range ranges.new.items) }

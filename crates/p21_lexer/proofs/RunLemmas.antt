@@ -161,6 +161,6 @@ opens_past bs i h = elim (ends bs i h) [ inl p ↦ rw p refl | inr p ↦ rw p re
 
 pub ruleset opens = (opens_yes, opens_one, opens_two, opens_past)
 
--- A front behind one byte.
+-- A front after one byte.
 pub behind_at : (w : List ℕ → Option ℕ) (bs : List ℕ) (i : ℕ) → option_map (λ n. (i + 1) + n) (w (drop (i + 1) bs)) ≡ option_map (λ n. i + n) (option_map (λ n. n + 1) (w (drop 1 (drop i bs))))
 behind_at w bs i = rw (drop-drop 1 i bs) (sym (shifted i _))

@@ -49,7 +49,7 @@ fn comment_end(bytes: &[u8], from: usize) -> Option<usize>
     None
 }
 
-/// Past all blanks and whole comments from `from` on. A comment that nothing closes is none. Most tokens stand right behind one another.
+/// Past all blanks and whole comments from `from` on. A comment that nothing closes is none. Most tokens stand right after one another.
 #[inline(always)]
 pub fn skip(bytes: &[u8], from: usize) -> usize
     requires { from ≤ length bytes.now }

@@ -44,7 +44,7 @@ fn name_digits_end(bytes: &[u8], from: usize) -> usize
     at
 }
 
-/// The end of an instance name, from behind its number sign.
+/// The end of an instance name, from after its number sign.
 pub fn name_end(bytes: &[u8], from: usize) -> Option<usize>
     requires { from ≤ length bytes.now }
     ensures span { result ≡ option_map (λ n. from + n) (name_span (drop from bytes.now)) }
@@ -129,7 +129,7 @@ fn quote_from(bytes: &[u8], from: usize) -> usize
     at
 }
 
-/// The end of a text in which two apostrophes may stand side by side, from behind its first apostrophe.
+/// The end of a text in which two apostrophes may stand side by side, from after its first apostrophe.
 fn long_text_end(bytes: &[u8], from: usize) -> Option<usize>
     requires { from ≤ length bytes.now }
     ensures span { result ≡ option_map (λ n. from + n) (text_span (drop from bytes.now)) }
@@ -150,7 +150,7 @@ fn long_text_end(bytes: &[u8], from: usize) -> Option<usize>
     found
 }
 
-/// The end of a text, from behind its first apostrophe. Two apostrophes stand for one; where nothing closes the text, it ends
+/// The end of a text, from after its first apostrophe. Two apostrophes stand for one; where nothing closes the text, it ends
 /// at the first of the last two.
 pub fn text_end(bytes: &[u8], from: usize) -> Option<usize>
     requires { from ≤ length bytes.now }
@@ -167,7 +167,7 @@ pub fn text_end(bytes: &[u8], from: usize) -> Option<usize>
     Some(quote + 1)
 }
 
-/// The end of an enumeration, from behind its first point.
+/// The end of an enumeration, from after its first point.
 #[tactic(auto, using(crate::proofs::RunLemmas::heads), unfolding(crate::specs::inner::TokenSpans::enumeration_span))]
 pub fn enumeration_end(bytes: &[u8], from: usize) -> Option<usize>
     requires { from ≤ length bytes.now }
@@ -183,7 +183,7 @@ pub fn enumeration_end(bytes: &[u8], from: usize) -> Option<usize>
     None
 }
 
-/// The end of a binary, from behind its first quotation mark.
+/// The end of a binary, from after its first quotation mark.
 #[tactic(auto, using(crate::proofs::RunLemmas::heads), unfolding(crate::specs::inner::TokenSpans::bits_span))]
 pub fn bits_end(bytes: &[u8], from: usize) -> Option<usize>
     requires { from ≤ length bytes.now }

@@ -13,7 +13,7 @@ use crate::token::TokenKind;
 pub struct NameThere {
     /// Its number.
     pub id: u64,
-    /// The place behind it.
+    /// The place after it.
     pub end: usize,
 }
 

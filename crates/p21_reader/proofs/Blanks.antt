@@ -1,4 +1,4 @@
--- The token that is cut from behind a blank is cut from before it too.
+-- The token that is cut from after a blank is cut from before it too.
 use Rattle.std.proofs.Common.{◌≡◌, ℕ, ◌+◌, ◌<◌, inl, List, [], ◌∷◌, length, get_or, drop, true, Some, Ok, refl, add-one, drop-cons}
 use Rattle.p21_lexer.specs.declared.token.Token.{Token}
 use Rattle.p21_lexer.specs.TokenSeparators.{is_blank, IsPiece}

@@ -109,7 +109,7 @@ closing_word bytes mid t f e h k =
 abbrev begins : List Sign
 begins = T (Word Iso) ∷ T Semi ∷ []
 
--- behind the first two tokens
+-- after the first two tokens
 abbrev begun : List Sign
 begun = T (Word Header) ∷ T Semi ∷ Statements ∷ []
 

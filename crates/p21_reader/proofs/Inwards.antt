@@ -1,4 +1,4 @@
--- The values of a list are passed over one after another, from behind its opening parenthesis.
+-- The values of a list are passed over one after another, from after its opening parenthesis.
 use Rattle.std.proofs.Common.{◌≡◌, ℕ, List, [], ◌∷◌, ◌++◌, map, Option, Some, None, Result, Ok, Err, refl, sym, ap, subst, ◌∙◌, append_assoc}
 use Rattle.p21_lexer.specs.declared.token.Token.{Token}
 use Rattle.p21_lexer.specs.Cutting.{CutsFrom}
@@ -69,7 +69,7 @@ stands_there d bytes at end t v h r = record {
   cuts = rw r.spelled (t, ((h.0.0, record { pieces = []; passed = refl; stop = h.0.1.stop }), h.1, h.2), refl, r.goes.cuts);
 }
 
--- a token behind a value that is neither a comma nor the end
+-- a token after a value that is neither a comma nor the end
 class_after_none : (d : Option ℕ) (c : Class) → (kind_of c ≡ kinds.Close → ⊥) → (kind_of c ≡ kinds.Comma → ⊥) → next (After d) c ≡ None
 class_after_none d Close h k = absurd (h refl)
 class_after_none d Comma h k = absurd (k refl)
@@ -78,12 +78,12 @@ class_after_none d c h k = refl
 pub after_none : (d : Option ℕ) (l : Lexeme) (k : Kind) → k ≡ kind_of (class_of l) → (k ≡ kinds.Close → ⊥) → (k ≡ kinds.Comma → ⊥) → next (After d) (class_of l) ≡ None
 after_none d l k e h g = class_after_none d (class_of l) (λ x. h (e ∙ x)) (λ x. g (e ∙ x))
 
--- an opening parenthesis, and what is passed over behind it
+-- an opening parenthesis, and what is passed over after it
 pub opens_passes : (d : ℕ) (bytes : List ℕ) (at opened : ℕ) (r : Result ℕ ReadFault) → Goes (T Open ∷ []) [] bytes at opened (Opening ∷ []) → Passes (Inside (Some d) ∷ []) bytes opened r → Passes (T Open ∷ Inside (Some d) ∷ []) bytes at r
 opens_passes d bytes at opened (Ok end) h p = (Opening ∷ p.0, opens_goes d bytes at opened end p.0 h p.1)
 opens_passes d bytes at opened (Err f) h p = opens_fails d bytes at opened f h p
 
--- a token behind the parts of a complex instance that begins no other
+-- a token after the parts of a complex instance that begins no other
 class_ones_none : (c : Class) → (kind_of c ≡ kinds.Word → ⊥) → (kind_of c ≡ kinds.Close → ⊥) → next Ones c ≡ None
 class_ones_none Close h k = absurd (k refl)
 class_ones_none (Word m) h k = absurd (h refl)

@@ -59,7 +59,7 @@ worded most depth typed c h l k =
     let e = one_less most depth h in
     rw (held most depth typed l, e) (word_step (most - (depth + 1)) (wanted most depth typed) c k)
 
--- behind a value
+-- after a value
 
 -- Of the whole way.
 

@@ -16,7 +16,7 @@ use Rattle.p21_values.specs.TokenPieces.{kind_of, IsSign}
 use Rattle.p21_reader.proofs.Signs.{sign_said}
 use Rattle.p21_reader.proofs.Steps.{goes_one, goes_trans, goes_under, stops_under, fails_after, fails_under, after_fails}
 
--- so many values of a list stand behind its first one
+-- so many values of a list stand after its first one
 abbrev pub Behind : Option ℕ → List ℕ → ℕ → ℕ → List Value21 → Type 0
 Behind d bytes from at values = Goes (After d ∷ []) (After d ∷ []) bytes from at (behind (map print values))
 
@@ -48,14 +48,14 @@ behind_close d bytes from at close vs b h l =
     let one : Goes (After (Some d) ∷ []) [] bytes at close.end (Closing ∷ []) = rw l at (goes_one (After (Some d)) [] bytes at close h (rw l refl)) in
     goes_trans (After (Some d) ∷ []) (After (Some d) ∷ []) [] bytes from at close.end (behind (map print vs)) (Closing ∷ []) b one
 
--- behind a comma
+-- after a comma
 pub comma_fails : (d : ℕ) (bytes : List ℕ) (at : ℕ) (comma : Token) (f : ReadFault) → CutsFrom bytes at (Ok (Some comma)) → lexeme_of bytes comma ≡ Separator → Fails (Value (Some d) ∷ []) bytes comma.end f
     → Fails (After (Some d) ∷ []) bytes at f
 comma_fails d bytes at comma f h l k =
     fails_after (After (Some d) ∷ []) (Value (Some d) ∷ After (Some d) ∷ []) bytes at comma.end (lexeme_of bytes comma ∷ []) f
     (goes_one (After (Some d)) (Value (Some d) ∷ After (Some d) ∷ []) bytes at comma h (rw l refl)) (fails_under (Value (Some d) ∷ []) (After (Some d) ∷ []) bytes comma.end f k)
 
--- Behind an opening parenthesis.
+-- After an opening parenthesis.
 
 class_not_close : (l : Lexeme) (k : Kind) → k ≡ kind_of (class_of l) → (k ≡ kinds.Close → ⊥) → class_of l ≡ Close → ⊥
 class_not_close l k e h c = h (e ∙ ap kind_of c)

@@ -28,7 +28,7 @@ pub record Taken (most : ℕ) (top : Top) (depth : ℕ) (typed : List Bool) (byt
   pub goes : Goes wanted (signs most top depth typed) bytes t.end at rest
   pub counts : Counts before after (told (lexeme_of bytes t ∷ rest))
 
--- the token that comes is the given one, or is cut behind those that are passed over
+-- the token that comes is the given one, or is cut after those that are passed over
 pub data Midway (most : ℕ) (top : Top) (depth : ℕ) (typed : List Bool) (bytes : List ℕ) (t p : Token) (before after : ℕ) : Type 0 where
   fresh : top ≡ tops.Value → depth ≡ 0 → p ≡ t → before ≡ after → Midway most top depth typed bytes t p before after
   behind : (at : ℕ) → Taken most top depth typed bytes t at before after → CutsFrom bytes at (Ok (Some p)) → Midway most top depth typed bytes t p before after

@@ -32,7 +32,7 @@ same_step σ l m xs ys r q e =
     let g : a.0 ≡ b.0 = cc in
     (a.0, a.2, ap (λ β. run β ys) g ∙ b.2)
 
--- of two lists that the table leads through to its end, with others behind them, that are alike
+-- of two lists that the table leads through to its end, with others after them, that are alike
 one_front : (σ : List Sign) (ls ms x y : List Lexeme) → run σ (classes ls) ≡ Some [] → run σ (classes ms) ≡ Some [] → ls ++ x ≡ ms ++ y → (ls ≡ ms) × (x ≡ y)
 one_front σ [] [] x y r q e = (refl, e)
 one_front σ [] (m ∷ ms) x y r q e = absurd (ended σ (class_of m) (classes ms) r q)
@@ -77,7 +77,7 @@ one_body None None vs us ls ms x y h g e = (
   (one_front (Body ∷ []) ls ms x y (complete (Body ∷ []) (classes ls) h.3) (complete (Body ∷ []) (classes ms) g.3) e).1,
 )
 
--- an instance's tokens, with others behind them
+-- an instance's tokens, with others after them
 opened : (i : Instance) (ls x : List Lexeme) (h : SpellsInstance i ls) → ls ++ x ≡ ReferenceTo i.id ∷ Assigning ∷ (h.body ++ (Ending ∷ x))
 opened i ls x h = ap (λ z. z ++ x) h.whole ∙ ap (λ z. ReferenceTo i.id ∷ Assigning ∷ z) (append_assoc h.body (Ending ∷ []) x)
 
@@ -105,7 +105,7 @@ one_data (i ∷ is) (j ∷ js) ls ms x y rest h k c d e =
     let r = one_instance i j h.0 k.0 (h.1 ++ x) (k.1 ++ y) h.2 k.2 f in
     ap (λ z. z ∷ map saying is) r.0 ∙ ap (λ z. saying j ∷ z) (one_data is js h.1 k.1 x y rest h.4 k.4 c d r.1)
 
--- Tokens begin with one list of statements at most, behind which ENDSEC and a semicolon stand.
+-- Tokens begin with one list of statements at most, after which ENDSEC and a semicolon stand.
 
 one_statement : (s t : Statement) (ls ms x y : List Lexeme) → SpellsStatement s ls → SpellsStatement t ms → ls ++ x ≡ ms ++ y → (s ≡ t) × (x ≡ y)
 one_statement s t ls ms x y h g e =
@@ -137,7 +137,7 @@ one_statements (s ∷ ss) (t ∷ ts) ls ms x y p q h k c d e =
     let m = one_statements ss ts h.1 k.1 x y p q h.4 k.4 c d r.1 in
     (ap (λ z. z ∷ ss) r.0 ∙ ap (λ z. t ∷ z) m.0, m.1)
 
--- lists of one length, with others behind them
+-- lists of one length, with others after them
 one_length : (ls ms x y : List Lexeme) (cs : List Class) → classes ls ≡ cs → classes ms ≡ cs → ls ++ x ≡ ms ++ y → x ≡ y
 one_length [] [] x y cs h k e = e
 one_length [] (m ∷ ms) x y cs h k e = absurd (let f : classes (m ∷ ms) ≡ [] = k ∙ sym h in cc)

@@ -1,4 +1,4 @@
--- A value of one token that stands right there, the first of a list or behind a comma.
+-- A value of one token that stands right there, the first of a list or after a comma.
 use Rattle.std.proofs.Common.{◌≡◌, ℕ, suc, ◌+◌, ◌<◌, ◌≤◌, inl, inr, ◌⊎◌, List, [], ◌∷◌, ◌++◌, length, Ok, arith, refl, sym, ap, subst, ◌∙◌}
 use Rattle.std.specs.Prelude.{slice_index, slice_range}
 use Rattle.p21_lexer.specs.declared.token.Token.{Token}
@@ -52,7 +52,7 @@ plain_start depth bytes at end old new h items c =
     let v : PassesValue depth bytes item old.values new.values (Ok end) = plain_value depth bytes item old.values new.values k refl plain (subst P (sym (plain_tells k plain)) c) in
     (item, cuts, (v.0, v.1, items, v.2))
 
--- the same behind a comma
+-- the same after a comma
 pub plain_behind : (depth : ℕ) (bytes : List ℕ) (at end : ℕ) (old new : Table) → at < length bytes → slice_index bytes at ≡ 44 → IsValueThere bytes (at + 1) end
     → new.starts.items ≡ old.starts.items ++ (at + 1) ∷ [] → Counts old.values new.values 1 → PutsBehind depth bytes at old new end
 plain_behind depth bytes at end old new lt e h items c =

@@ -45,7 +45,7 @@ comma_or_close : (b : ℕ) → (b ≡ 44) ⊎ (b ≡ 41) → IsSignByte b
 comma_or_close b (inl e) = rw e tt
 comma_or_close b (inr e) = rw e tt
 
--- a number right there, and a sign right behind it
+-- a number right there, and a sign right after it
 pub number_sign : (bytes : List ℕ) (at end sign : ℕ) → (sign ≡ 44) ⊎ (sign ≡ 41) → StandsThere bytes at tokens.Number end → end < length bytes → slice_index bytes end ≡ sign
     → (x : List ℕ) × Cuts bytes at (NumberOf x ∷ single_says sign ∷ []) (end + 1)
 number_sign bytes at end sign s h lt e =
@@ -59,7 +59,7 @@ three_numbers bytes at second third end a b c =
     let k = cuts_append bytes second third end (NumberOf b.0 ∷ Separator ∷ []) (NumberOf c.0 ∷ Closing ∷ []) b.1 c.1 in
     (a.0, b.0, c.0, cuts_append bytes at second end (NumberOf a.0 ∷ Separator ∷ []) ls a.1 k)
 
--- a comma and a row right behind it
+-- a comma and a row right after it
 pub row_behind_comma : (bytes : List ℕ) (at end : ℕ) → at + 1 < length bytes → slice_index bytes at ≡ 44 → slice_index bytes (at + 1) ≡ 40 → EndsRow bytes (at + 2) end → HasRow bytes at end
 row_behind_comma bytes at end lt e f h =
     let ls : List Lexeme = row_rest h.0 h.1 h.2 in
@@ -104,7 +104,7 @@ pub inside_open : (top : Top) (depth : ℕ) (typed : List Bool) → IsFit top de
 inside_open tops.Inside depth typed f e = f.0
 inside_open _ depth typed f e = cc
 
--- Rows behind a comma.
+-- Rows after a comma.
 
 pub one_row_more : (bytes : List ℕ) (at mid end before middle after : ℕ) → PassesRows bytes at before middle mid → HasRow bytes mid end → Counts middle after 4 → PassesRows bytes at before after end
 one_row_more bytes at mid end before middle after (inl h) r c =
@@ -156,7 +156,7 @@ many_taken most k many typed bytes t at end before middle after lt f m h c =
       counts = subst P n (counts_more before middle after (told (lexeme_of bytes t ∷ m.rest)) (4 * many) m.counts c);
     }
 
--- behind a value where a list may hold lists
+-- after a value where a list may hold lists
 open_taken : (most depth many : ℕ) (typed : List Bool) (bytes : List ℕ) (t : Token) (at end before middle after : ℕ) → 0 < depth → depth < most → slice_index_or typed (depth - 1) false ≡ false
     → Taken most tops.Behind depth typed bytes t at before middle → HasRows many bytes at end → Counts middle after (4 * many) → Taken most tops.Behind depth typed bytes t end before after
 open_taken most zero many typed bytes t at end before middle after some lt f m h c = absurd (omega (arith, some))

@@ -115,7 +115,7 @@ opening_no : (c : Class) → (c ≡ Open → ⊥) → next (T Open) c ≡ None
 opening_no Open a = absurd (a refl)
 opening_no c a = refl
 
--- what is wanted behind a word among the statements
+-- what is wanted after a word among the statements
 record Behind (m : Mark) : Type 0 where
   sign : Sign
   others : List Sign
@@ -158,14 +158,14 @@ word_goes : (bytes : List ℕ) (at : ℕ) (w : Piece) → CutsFrom bytes at (Ok 
     → Goes (Statements ∷ []) (b.sign ∷ b.others) bytes at w.token.end (lexeme_of bytes w.token ∷ [])
 word_goes bytes at w h m e b = goes_one Statements (b.sign ∷ b.others) bytes at w.token h (ap (λ x. next Statements x) e ∙ b.begins)
 
--- no token behind the word
+-- no token after the word
 pub part_none : (bytes : List ℕ) (at : ℕ) (w : Piece) (f : ReadFault) → CutsFrom bytes at (Ok (Some w.token)) → IsPiece bytes w → w.kind ≡ kinds.Word → NoToken bytes w.token.end f → Fails (Statements ∷ []) bytes at f
 part_none bytes at w f h i k n =
     let c = word_class (class_of (lexeme_of bytes w.token)) w.kind i.seen k in
     let b = behind_word c.0 in
     fails_after (Statements ∷ []) (b.sign ∷ b.others) bytes at w.token.end (lexeme_of bytes w.token ∷ []) f (word_goes bytes at w h c.0 c.1 b) (fails_none b.sign b.others bytes w.token.end f n)
 
--- a token behind the word that can't stand there
+-- a token after the word that can't stand there
 pub part_stuck : (bytes : List ℕ) (at : ℕ) (w v : Piece) → CutsFrom bytes at (Ok (Some w.token)) → IsPiece bytes w → w.kind ≡ kinds.Word → CutsFrom bytes w.token.end (Ok (Some v.token)) → IsPiece bytes v
     → (v.kind ≡ kinds.Open → ⊥) → (v.kind ≡ kinds.Semicolon → class_of (lexeme_of bytes w.token) ≡ Word EndSec → ⊥) → Fails (Statements ∷ []) bytes at (faults.BadStatement v.token.start)
 part_stuck bytes at w v h i k g j n o =

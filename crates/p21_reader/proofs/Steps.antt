@@ -85,7 +85,7 @@ fails_none s σ bytes at faults.Memory h = tt
 pub fails_refused : (s : Sign) (σ : List Sign) (bytes : List ℕ) (at p : ℕ) (t : Token) → CutsFrom bytes at (Ok (Some t)) → next s (class_of (lexeme_of bytes t)) ≡ None → p ≡ t.start → Fails (s ∷ σ) bytes at (faults.BadStatement p)
 fails_refused s σ bytes at p t h n e = record { before = []; place = at; sign = s; later = σ; goes = goes_here (s ∷ σ) bytes at; stuck = inr (t, h, e, n) }
 
--- Behind a token that is given.
+-- After a token that is given.
 
 after_stops : (s : Sign) (σ : List Sign) (bytes : List ℕ) (at p : ℕ) (t : Token) (f : ReadFault) → CutsFrom bytes at (Ok (Some t)) → f ≡ faults.BadStatement p
     → StopsAfter s bytes t f → Stops (s ∷ σ) bytes at f

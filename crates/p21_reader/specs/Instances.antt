@@ -28,7 +28,7 @@ SpellsAll (i ∷ more) ls = (front rest : List Lexeme) × SpellsInstance i front
 
 -- What the functions answer.
 
--- what stands in an instance behind its first lexeme is read at a place, to its end
+-- what stands in an instance after its first lexeme is read at a place, to its end
 abbrev pub ReadsBody : List Sign → Lexeme → List ℕ → ℕ → Option (List ℕ) → List Value21 → ℕ → Type 0
 ReadsBody σ first bytes at keyword values end =
     (rest : List Lexeme) × SpellsBody keyword values (first ∷ rest) × Goes σ [] bytes at end rest

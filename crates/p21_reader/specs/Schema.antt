@@ -7,7 +7,7 @@ use Rattle.bim_text.specs.TextSpellings.{text_of_spelling}
 
 -- The header of a file: its statements, and the schema that they name (ISO 10303-21, section 8).
 
--- A header statement: its keyword, and the tokens behind its opening parenthesis, up to and with the closing one.
+-- A header statement: its keyword, and the tokens after its opening parenthesis, up to and with the closing one.
 pub record Statement : Type 0 where
   pub keyword : List ℕ
   pub values : List Lexeme
@@ -23,7 +23,7 @@ SpellsStatements [] ls = ls ≡ []
 SpellsStatements (s ∷ more) ls =
     (front rest : List Lexeme) × SpellsStatement s front × (ls ≡ front ++ rest) × SpellsStatements more rest
 
--- These tokens are a header with these statements, from the first token of the file up to and with the semicolon behind DATA.
+-- These tokens are a header with these statements, from the first token of the file up to and with the semicolon after DATA.
 pub record SpellsHeading (statements : List Statement) (ls : List Lexeme) : Type 0 where
   pub opening : List Lexeme
   pub middle : List Lexeme

@@ -66,7 +66,7 @@ HasFault bytes (faults.DoubleId id) =
     × (values_of found ≤ MOST_VALUES) × IsLeastDouble id found
 HasFault _ _ = ⊥
 
--- want of memory is free
+-- out of memory is always allowed
 abbrev pub IsCause : List ℕ → BuildError → Type 0
 IsCause bytes (errors.Fault fault) = HasFault bytes fault
 IsCause bytes errors.Memory = Unit {0}

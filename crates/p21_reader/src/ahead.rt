@@ -86,7 +86,7 @@ fn text_token(bytes: &[u8], at: usize) -> Option<Token>
     }
 }
 
-/// The text, without its apostrophes, of one that stands alone in parentheses behind an opening one: `('text'))`.
+/// The text, without its apostrophes, of one that stands alone in parentheses after an opening one: `('text'))`.
 pub fn only_text(bytes: &[u8], at: usize) -> Option<&[u8]>
     requires { at ≤ length bytes.now }
     ensures found { IfSome result (λ spelled. OnlyText bytes.now at spelled.now) }

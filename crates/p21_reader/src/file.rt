@@ -42,7 +42,7 @@ pub fn begin(bytes: &[u8]) -> Option<usize>
     }
 }
 
-/// Reads a file from behind its first two tokens on. Bytes after its last semicolon aren't looked at.
+/// Reads a file from after its first two tokens on. Bytes after its last semicolon aren't looked at.
 pub fn read_file(alloc: Global, bytes: &[u8], begun: usize) -> Result<File, ReadFault>
     requires short { length bytes.now ≤ MOST_UPLOAD }
     requires begun { BeginsAt bytes.now begun }

@@ -12,19 +12,19 @@ use std::alloc::Global;
 /// What stands next among the statements of a header.
 #[derive(Clone, Copy)]
 pub enum Part {
-    /// A statement: its keyword, and the places behind its opening parenthesis and its semicolon.
+    /// A statement: its keyword, and the places after its opening parenthesis and its semicolon.
     Statement {
         word: Piece,
         inside: usize,
         end: usize,
     },
-    /// The end of the header, and the place behind it.
+    /// The end of the header, and the place after it.
     Data {
         end: usize,
     },
 }
 
-/// Whether a header names IFC4, and the place behind it.
+/// Whether a header names IFC4, and the place after it.
 #[derive(Clone, Copy)]
 pub struct Head {
     pub is_ifc4: bool,
@@ -68,7 +68,7 @@ fn next_part(alloc: Global, bytes: &[u8], at: usize) -> Result<Part, ReadFault>
     }
 }
 
-/// Reads the statements of a header, up to and with the semicolon behind DATA.
+/// Reads the statements of a header, up to and with the semicolon after DATA.
 fn statements(alloc: Global, bytes: &[u8], at: usize) -> Result<Head, ReadFault>
     requires { at ≤ length bytes.now }
     ensures statements { ReadsStatements bytes.now at result }
@@ -92,7 +92,7 @@ fn statements(alloc: Global, bytes: &[u8], at: usize) -> Result<Head, ReadFault>
     }
 }
 
-/// Reads a header from its word HEADER on, up to and with the semicolon behind DATA.
+/// Reads a header from its word HEADER on, up to and with the semicolon after DATA.
 pub fn header(alloc: Global, bytes: &[u8], at: usize) -> Result<Head, ReadFault>
     requires { at ≤ length bytes.now }
     ensures header { ReadsHeader bytes.now at result }

@@ -36,7 +36,7 @@ fn after_value(found: Seen) -> Option<&'static [Want]>
     }
 }
 
-/// The same behind an opening parenthesis.
+/// The same after an opening parenthesis.
 fn after_open(found: Seen) -> Option<&'static [Want]>
     ensures { MatchOption result (next (sign_of Want.Inside) (class_seen found) ≡ None)
         (λ wants. next (sign_of Want.Inside) (class_seen found) ≡ Some (signs_of wants.now)) }
@@ -92,7 +92,7 @@ fn follow(bytes: &[u8], piece: Piece, want: Want, wants: &mut Vec<Want>) -> Resu
     }
 }
 
-/// Passes over values, from behind the opening parenthesis up to and with the closing one. Parentheses of the header nest without
+/// Passes over values, from after the opening parenthesis up to and with the closing one. Parentheses of the header nest without
 /// limit, so what is wanted lies on a stack of its own.
 pub fn pass_values(alloc: Global, bytes: &[u8], at: usize) -> Result<usize, ReadFault>
     requires { at ≤ length bytes.now }

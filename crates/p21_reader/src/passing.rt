@@ -19,7 +19,7 @@ pub enum Top {
     Value,
     /// A value, or the end of an empty list.
     Inside,
-    /// The opening parenthesis behind a keyword.
+    /// The opening parenthesis after a keyword.
     Opening,
     /// What stands behind a value.
     Behind,
@@ -80,7 +80,7 @@ fn after_value(kind: Kind, most: usize, depth: usize, typed: &mut [bool]) -> Opt
     }
 }
 
-/// What is wanted after a token behind a value, where a parenthesis is open.
+/// What is wanted after a token after a value, where a parenthesis is open.
 fn after_behind(kind: Kind, most: usize, depth: usize, typed: &[bool]) -> Option<Level>
     requires room { length typed.now ≡ 32 }
     requires most { most ≤ 32 }
@@ -179,7 +179,7 @@ fn counted(so_far: u64, kind: Kind) -> u64
     }
 }
 
-/// Behind a number that stands right there, and behind this sign right behind it. None says nothing.
+/// After a number that stands right there, and after this sign right after it. None says nothing.
 #[inline(always)]
 fn number_before(bytes: &[u8], at: usize, sign: u8) -> Option<usize>
     requires { sign ≡ 44 ⊎ sign ≡ 41 }
@@ -198,7 +198,7 @@ fn number_before(bytes: &[u8], at: usize, sign: u8) -> Option<usize>
     Some(end + 1)
 }
 
-/// Behind a list of three numbers without blanks, whose opening parenthesis ends at `at`. None says nothing.
+/// After a list of three numbers without blanks, whose opening parenthesis ends at `at`. None says nothing.
 #[inline(always)]
 fn row_end(bytes: &[u8], at: usize) -> Option<usize>
     ensures row { IfSome result (EndsRow bytes.now at) }
@@ -210,7 +210,7 @@ fn row_end(bytes: &[u8], at: usize) -> Option<usize>
     number_before(bytes, third, b')')
 }
 
-/// Passes over lists of three numbers without blanks, each right behind a comma, as far as they stand there, and counts their values.
+/// Passes over lists of three numbers without blanks, each right after a comma, as far as they stand there, and counts their values.
 #[inline(always)]
 fn pass_rows(bytes: &[u8], at: usize, count: &mut u64) -> usize
     requires within { at ≤ length bytes.now }
@@ -226,7 +226,7 @@ fn pass_rows(bytes: &[u8], at: usize, count: &mut u64) -> usize
     end
 }
 
-/// Behind a comma and a list of three numbers that stand right there. None says nothing.
+/// After a comma and a list of three numbers that stand right there. None says nothing.
 #[inline(always)]
 fn row_behind(bytes: &[u8], at: usize) -> Option<usize>
     requires within { at ≤ length bytes.now }
@@ -263,7 +263,7 @@ fn holds_lists(level: Level, most: usize, typed: &[bool]) -> bool
     }
 }
 
-/// Passes over rows behind a value of a list that is open, where it may hold lists.
+/// Passes over rows after a value of a list that is open, where it may hold lists.
 #[inline(always)]
 fn pass_more(
     bytes: &[u8],
@@ -368,7 +368,7 @@ pub fn pass_value(
     }
 }
 
-/// Passes over values, from behind the opening parenthesis up to and with the closing one.
+/// Passes over values, from after the opening parenthesis up to and with the closing one.
 fn pass_inside(bytes: &[u8], at: usize, depth: usize) -> Result<usize, ReadFault>
     requires at { at ≤ length bytes.now }
     requires depth { depth ≤ 32 }
@@ -395,7 +395,7 @@ fn pass_inside(bytes: &[u8], at: usize, depth: usize) -> Result<usize, ReadFault
     }
 }
 
-/// Passes over the values of one keyword of a complex instance, from behind the keyword.
+/// Passes over the values of one keyword of a complex instance, from after the keyword.
 fn pass_one(bytes: &[u8], at: usize) -> Result<usize, ReadFault>
     requires { at ≤ length bytes.now }
     ensures passes { Passes (T Open ∷ Inside (Some (MOST_DEPTH - 2)) ∷ []) bytes.now at result }
@@ -406,7 +406,7 @@ fn pass_one(bytes: &[u8], at: usize) -> Result<usize, ReadFault>
     pass_inside(bytes, open, MOST_DEPTH as usize - 2)
 }
 
-/// Passes over a complex instance, from behind its opening parenthesis, up to and with the closing one.
+/// Passes over a complex instance, from after its opening parenthesis, up to and with the closing one.
 pub fn pass_complex(bytes: &[u8], at: usize) -> Result<usize, ReadFault>
     requires { at ≤ length bytes.now }
     ensures passes { Passes (AnyWord ∷ T Open ∷ Inside (Some (MOST_DEPTH - 2)) ∷ Ones ∷

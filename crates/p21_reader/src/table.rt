@@ -50,7 +50,7 @@ fn attribute(
     Ok(end)
 }
 
-/// Adds the start of the value of one token that stands right behind a comma, right there, and passes over both. None where another stands
+/// Adds the start of the value of one token that stands right after a comma, right there, and passes over both. None where another stands
 /// there.
 #[inline(always)]
 fn plain_attribute(bytes: &[u8], at: usize, table: &mut Table) -> Result<Option<usize>, AllocError>
@@ -100,7 +100,7 @@ fn plain_first(bytes: &[u8], at: usize, table: &mut Table) -> Result<Option<usiz
     }
 }
 
-/// Adds the starts of values that are `$`, each right behind a comma, and passes over them.
+/// Adds the starts of values that are `$`, each right after a comma, and passes over them.
 #[inline(always)]
 fn pass_absent(bytes: &[u8], at: usize, table: &mut Table) -> Result<usize, AllocError>
     requires short { length bytes.now ≤ MOST_UPLOAD }

@@ -214,7 +214,7 @@ words_there bytes at b end v h k e s =
 pub words_long : (bytes : List ℕ) (at b end : ℕ) → IsValueThere bytes at end → BeginsToken bytes at b → b ≡ 39 → 2 ≤ length (slice_range bytes at end)
 words_long bytes at b end h k e = words_two h.0 (slice_range bytes at end) ∣ h.2.0.2.spelled ∣₁ (text_kind bytes at b end h k e)
 
--- the first byte tells whether it is a text
+-- the first byte says whether it is a text
 text_here : (bytes : List ℕ) (at b : ℕ) (v : Value21) → BeginsToken bytes at b → b ≡ 39 → Stands bytes at v → true ≡ is_some (words_of v)
 text_here bytes at b v h e s =
     let r = right_there bytes at b v h s in
@@ -232,7 +232,7 @@ text_told bytes at b v h s = elim (cases_Bool (b == 39)) [
   | inr k ↦ k ∙ ap (λ (o : Option (List ℕ)). is_some o) (no_words_there bytes at b v h (other_byte b k) s)
 ]
 
--- it ends behind its beginning, within the bytes
+-- it ends after its beginning, within the bytes
 pub one_order : (bytes : List ℕ) (at end : ℕ) → IsValueThere bytes at end → at < end
 one_order bytes at end h = h.2.0.1
 
@@ -302,7 +302,7 @@ plain_there bytes at end h =
     let front = head_of bytes at end 0 h.2.0.1 h.2.1 in
     subst (λ (xs : List ℕ). IsPlain (says h.0 xs)) (sym front) (plain_said h.0 (get_or bytes at 0) (take (end - suc at) (drop (suc at) bytes)) h.1)
 
--- it is the first of those that stand there, and the others stand behind it
+-- it is the first of those that stand there, and the others stand after it
 leaves_one : (bytes : List ℕ) (at end after : ℕ) → IsValueThere bytes at end → ((vs : List Value21) → StandBehind bytes end vs → StandInside bytes after vs) → LeavesBehind bytes at after
 leaves_one bytes at end after h next = λ vs k.
     let t = token_of h.0 at end in

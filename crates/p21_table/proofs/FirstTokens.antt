@@ -466,7 +466,7 @@ typed_rest (layer.Bits bs) k = cc
 typed_rest (layer.Reference n) k = cc
 typed_rest (layer.List vs) k = cc
 
--- of a typed value: behind its opening parenthesis
+-- of a typed value: after its opening parenthesis
 pub typed_end : (bytes : List ℕ) (t : Token) (v : Value21) (b : Begins bytes t v) → kind_of (class_of (lexeme_of bytes t)) ≡ kinds.Word
     → (o : Token) × CutsFrom bytes t.end (Ok (Some o)) × (ls : List Lexeme) × Closes 1 ls × Cuts bytes o.end ls b.end
 typed_end bytes t v b k =
@@ -498,7 +498,7 @@ none_held (layer.Bits bs) n = refl
 none_held (layer.Reference i) n = refl
 none_held (layer.List vs) n = refl
 
--- it stands behind the opening parenthesis that the keyword has behind it
+-- it stands behind the opening parenthesis that the keyword has after it
 pub typed_by : (bytes : List ℕ) (t o : Token) (v : Value21) → Begins bytes t v → kind_of (class_of (lexeme_of bytes t)) ≡ kinds.Word → CutsFrom bytes t.end (Ok (Some o))
     → (w : Value21) × (typed_of v ≡ Some w) × Stands bytes o.end w
 typed_by bytes t o v b k cut =

@@ -110,7 +110,7 @@ none_held_told bytes at says h = ∥∥₁_elim says.1 (held_set None (typed_of 
 abbrev FirstBegins : List ℕ → Token → List Value21 → Type 0
 FirstBegins bytes t vs = (v : Value21) × (others : List Value21) × (vs ≡ v ∷ others) × Begins bytes t v
 
--- where the first of them begins with the token, the others stand behind it
+-- where the first of them begins with the token, the others stand after it
 pub leaves : (bytes : List ℕ) (at after : ℕ) (t : Token) → ((vs : List Value21) → StandInside bytes at vs → FirstBegins bytes t vs)
     → ((from : ℕ) (v : Value21) (vs : List Value21) → StandInside bytes from (v ∷ vs) → CutsFrom bytes from (Ok (Some t)) → StandInside bytes after vs) → CutsFrom bytes at (Ok (Some t))
     → LeavesBehind bytes at after
@@ -133,7 +133,7 @@ pub first_stands : (bytes : List ℕ) (at after : ℕ) (says : (vs : List Value2
 first_stands bytes at after ([], s) h = no_first bytes at after s h
 first_stands bytes at after (v ∷ vs, s) h = (v, ∥∥₁_elim s ∥∥₁_prop (λ k. ∣ (first_inside bytes at v vs k).0 ∣₁))
 
--- the others stand behind it
+-- the others stand after it
 pub others_stand : (bytes : List ℕ) (at after : ℕ) (says : (vs : List Value21) × ∥ StandInside bytes at vs ∥₁) → LeavesBehind bytes at after
     → (vs : List Value21) × ∥ StandInside bytes after vs ∥₁
 others_stand bytes at after ([], s) h = no_first bytes at after s h

@@ -102,7 +102,7 @@ cuts_end bytes at end fin (l ∷ ls) h k =
 
 -- What the list says.
 
--- it begins with the row, and the others stand behind it
+-- it begins with the row, and the others stand after it
 abbrev Follows : List ℕ → ℕ → ShortRow → List Value21 → Type 0
 Follows bytes at r vs = (others : List Value21) × (vs ≡ row_value bytes at r ∷ others) × StandBehind bytes r.end others
 
@@ -131,7 +131,7 @@ not_empty v vs e = cc
 same_rest : (v w : Value21) (vs ws : List Value21) → v ∷ vs ≡ w ∷ ws → ws ≡ vs
 same_rest v w vs ws e = cc
 
--- the others stand behind the row
+-- the others stand after the row
 pub rows_stand : (bytes : List ℕ) (at after : ℕ) (r : ShortRow) (says : (vs : List Value21) × ∥ StandInside bytes at vs ∥₁) → IsRowAt bytes at r
     → ((vs : List Value21) → StandBehind bytes r.end vs → StandInside bytes after vs) → (vs : List Value21) × ∥ StandInside bytes after vs ∥₁
 rows_stand bytes at after r ([], s) h next = absurd (∥∥₁_elim s nothing (λ k. let f = row_first bytes at r [] h k in not_empty (row_value bytes at r) f.0 f.1))

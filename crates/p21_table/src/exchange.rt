@@ -3,7 +3,7 @@ ghost use Rattle.p21_values.specs.Tables.{Meaning};
 ghost use Rattle.p21_values.proofs.Stood.{one_world};
 
 use crate::instance_list::Instances;
-use bim_model::Bytes;
+use bim_model::{Bytes, know};
 use p21_values::Head;
 use std::marker::Model;
 
@@ -99,7 +99,7 @@ impl Exchange {
         ensures rises { Rises self.now }
         ensures few { length self.now ≤ MOST_INSTANCES }
     {
-        let _ = &self.bytes;
+        know(&self.bytes);
         Instances::of(self, 0)
     }
 }

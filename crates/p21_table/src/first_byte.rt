@@ -68,7 +68,7 @@ pub fn words_by_byte(bytes: &[u8], at: usize) -> Option<Option<&[u8]>>
     }
 }
 
-/// The place behind the opening parenthesis of the list; none where the value is no list.
+/// The place after the opening parenthesis of the list; none where the value is no list.
 #[inline(always)]
 pub fn inside_by_byte(bytes: &[u8], at: usize) -> Option<Option<usize>>
     ensures inside { IfSome result (λ answer. (v : Value21) → Stands bytes.now at v
@@ -84,7 +84,7 @@ pub fn inside_by_byte(bytes: &[u8], at: usize) -> Option<Option<usize>>
     }
 }
 
-/// Where the next value of a list begins, or the list ends, behind a value of one token.
+/// Where the next value of a list begins, or the list ends, after a value of one token.
 #[inline(always)]
 pub fn behind_one(bytes: &[u8], at: usize) -> Option<usize>
     ensures behind { IfSome result (LeavesBehind bytes.now at) }

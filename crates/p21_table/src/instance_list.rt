@@ -1,4 +1,4 @@
-//! The instances of a file, one behind another.
+//! The instances of a file, one after another.
 use crate::exchange::Exchange;
 use crate::instance_ref::InstanceRef;
 use std::marker::Model;

@@ -78,7 +78,7 @@ pub fn absent_there(bytes: &[u8], first: Piece) -> bool
     first.kind == Kind::Simple && first.token.kind == TokenKind::Single
 }
 
-/// The place behind the opening parenthesis of a list whose first token is given.
+/// The place after the opening parenthesis of a list whose first token is given.
 pub fn inside_there(bytes: &[u8], first: Piece) -> Option<usize>
     requires { IsPiece bytes.now first }
     ensures inside { (v : Value21) → Begins bytes.now first.token v → MatchOption result (items_of v ≡ None)
@@ -135,7 +135,7 @@ struct Within {
     depth: usize,
 }
 
-/// What is open behind the text that begins at a place, or at the end of the comments that do; none where no token is left.
+/// What is open after the text that begins at a place, or at the end of the comments that do; none where no token is left.
 fn behind_mark(bytes: &[u8], at: usize, depth: usize) -> Option<Within>
     requires at { at < length bytes.now }
     requires mark { (slice_index bytes.now at == 39 || slice_index bytes.now at == 47) ≡ true }
@@ -164,7 +164,7 @@ fn behind_mark(bytes: &[u8], at: usize, depth: usize) -> Option<Within>
     }
 }
 
-/// What is open behind the byte at a place, or behind the text or the comments that begin there; none where no token is left.
+/// What is open after the byte at a place, or after the text or the comments that begin there; none where no token is left.
 fn behind_byte(bytes: &[u8], at: usize, depth: usize) -> Option<Within>
     requires at { at < length bytes.now }
     requires some { 0 < depth }
@@ -212,7 +212,7 @@ fn closed_there(bytes: &[u8], from: usize) -> Option<usize>
     None
 }
 
-/// The end of the value whose first token is given: behind the parenthesis that closes its first one, where it has one. None where the
+/// The end of the value whose first token is given: after the parenthesis that closes its first one, where it has one. None where the
 /// bytes end before.
 fn end_there(bytes: &[u8], first: Piece) -> Option<usize>
     requires { IsPiece bytes.now first }
@@ -231,7 +231,7 @@ fn end_there(bytes: &[u8], first: Piece) -> Option<usize>
     Some(first.token.end)
 }
 
-/// Where the next value of a list begins, or the list ends, behind one that ends at a place, where a sign stands right there. None says
+/// Where the next value of a list begins, or the list ends, after one that ends at a place, where a sign stands right there. None says
 /// nothing.
 #[inline(always)]
 pub fn sign_behind(bytes: &[u8], end: usize) -> Option<usize>
@@ -251,7 +251,7 @@ pub fn sign_behind(bytes: &[u8], end: usize) -> Option<usize>
     None
 }
 
-/// Where the next value of a list begins, or the list ends, behind the value whose first token is given.
+/// Where the next value of a list begins, or the list ends, after the value whose first token is given.
 pub fn next_there(bytes: &[u8], first: Piece) -> usize
     requires { IsPiece bytes.now first }
     ensures next { (at : ℕ) (v : Value21) (vs : List Value21) → StandInside bytes.now at (v ∷ vs)

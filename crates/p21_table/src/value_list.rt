@@ -1,4 +1,4 @@
-//! Values one behind another, as they stand in a list or an instance of a file.
+//! Values one after another, as they stand in a list or an instance of a file.
 ghost use Rattle.std.specs.Prelude.{◌≤◌, List, length};
 ghost use Rattle.p21_values.specs.declared.value.Value21.{Value21};
 ghost use Rattle.p21_values.specs.Standing.{StandInside};
@@ -20,7 +20,7 @@ pub struct Values<'a> {
     ghost says: { (vs : List Value21) × ∥ StandInside bytes.now at vs ∥₁ } by { one_inside bytes.now at },
 }
 
-/// Three values, one behind another.
+/// Three values, one after another.
 #[derive(Drop)]
 pub struct Three<'a> {
     pub x: ValueRef<'a>,

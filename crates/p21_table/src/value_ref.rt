@@ -26,7 +26,7 @@ pub struct ValueRef<'a> {
     ghost says: { Stood bytes.now at } by { one_stood bytes.now at },
 }
 
-/// Behind the opening parenthesis of the list that stands there; none where the value that does is no list.
+/// After the opening parenthesis of the list that stands there; none where the value that does is no list.
 #[inline(always)]
 fn inside_of(bytes: &[u8], at: usize) -> Option<usize>
     requires within { at ≤ length bytes.now }
@@ -152,7 +152,7 @@ impl<'a> ValueRef<'a> {
         }
     }
 
-    /// The value that a typed value holds, behind its keyword (ISO 10303-21, section 10).
+    /// The value that a typed value holds, after its keyword (ISO 10303-21, section 10).
     pub fn typed(&self) -> Option<ValueRef<'a>>
         ensures { result ≡ typed_of self.now }
     {
@@ -163,7 +163,7 @@ impl<'a> ValueRef<'a> {
         }
     }
 
-    /// The bytes of the number that it is, or that it holds behind a keyword (IFC4 ADD2 TC1, IfcValue).
+    /// The bytes of the number that it is, or that it holds after a keyword (IFC4 ADD2 TC1, IfcValue).
     pub fn measure(&self) -> Option<&'a [u8]>
         ensures { option_copied result ≡ measure_of self.now }
     {

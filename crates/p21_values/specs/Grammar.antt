@@ -37,7 +37,7 @@ pub data Rule : Sign → List Sign → Type 0 where
   name : (d : Option ℕ) → Rule (Value d) (T Name ∷ [])
   list : (d e : Option ℕ) → down d ≡ Some e → Rule (Value d) (T Open ∷ Inside e ∷ [])
   typed : (d e : Option ℕ) → down d ≡ Some e → Rule (Value d) (AnyWord ∷ T Open ∷ Value e ∷ T Close ∷ [])
-  -- behind an opening parenthesis, up to and with the closing one: nothing, or values between commas
+  -- after an opening parenthesis, up to and with the closing one: nothing, or values between commas
   empty : (d : Option ℕ) → Rule (Inside d) (T Close ∷ [])
   first : (d : Option ℕ) → Rule (Inside d) (Value d ∷ After d ∷ [])
   last : (d : Option ℕ) → Rule (After d) (T Close ∷ [])
@@ -65,7 +65,7 @@ pub data Derives : List Sign → List Class → Type 0 where
   rule : {α : List Sign} {ts : List Class} (s : Sign) (r : List Sign) → Rule s r → Derives (r ++ α) ts
       → Derives (s ∷ α) ts
 
--- the header, up to and with the semicolon behind DATA, and then the instances, up to and with the last semicolon
+-- the header, up to and with the semicolon after DATA, and then the instances, up to and with the last semicolon
 abbrev pub file : List Sign
 file = T (Word Iso) ∷ T Semi ∷ T (Word Header) ∷ T Semi ∷ Statements ∷ Instances ∷ []
 

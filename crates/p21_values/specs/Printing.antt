@@ -5,7 +5,7 @@ use Rattle.p21_values.specs.declared.value.Value21.TheOpen.{Value21-F}
 use Rattle.p21_values.specs.declared.value.Value21.TheOpen as layer
 use Rattle.p21_values.specs.declared.value.Value21.TheFolds.{fold-Value21}
 
--- values behind the first one, each behind a separator
+-- values behind the first one, each after a separator
 abbrev pub behind : List (List Lexeme) → List Lexeme
 behind [] = []
 behind (v ∷ vs) = Separator ∷ (v ++ behind vs)

@@ -14,7 +14,7 @@ pub record Stands (bytes : List ℕ) (at : ℕ) (v : Value21) : Type 0 where
   pub end : ℕ
   pub cuts : Cuts bytes at (print v) end
 
--- a token is the first of those that spell a value, and the others are cut behind it
+-- a token is the first of those that spell a value, and the others are cut after it
 pub record Begins (bytes : List ℕ) (t : Token) (v : Value21) : Type 0 where
   pub rest : List Lexeme
   pub end : ℕ
@@ -25,16 +25,16 @@ pub record Begins (bytes : List ℕ) (t : Token) (v : Value21) : Type 0 where
 abbrev pub StandInside : List ℕ → ℕ → List Value21 → Type 0
 StandInside bytes at vs = (end : ℕ) × Cuts bytes at (print_all vs ++ Closing ∷ []) end
 
--- values stand at these starts, one behind another up to a closing parenthesis
+-- values stand at these starts, one after another up to a closing parenthesis
 abbrev pub StandAt : List ℕ → List ℕ → List Value21 → Type 0
 StandAt bytes starts vs = AllZip (Stands bytes) starts vs
     × ((start : ℕ) (more : List ℕ) → starts ≡ start ∷ more → StandInside bytes start vs)
 
--- values stand from there on, behind another value of the list
+-- values stand from there on, after another value of the list
 abbrev pub StandBehind : List ℕ → ℕ → List Value21 → Type 0
 StandBehind bytes at vs = (end : ℕ) × Cuts bytes at (behind (map print vs) ++ Closing ∷ []) end
 
--- how many parentheses are open behind a token
+-- how many parentheses are open after a token
 abbrev pub depth_after : Kind → ℕ → ℕ
 depth_after kinds.Open depth = depth + 1
 depth_after kinds.Close depth = depth - 1
@@ -49,7 +49,7 @@ Closes depth (l ∷ ls) = (0 < depth) × Closes (depth_after (kind_of (class_of 
 abbrev pub is_plain : ℕ → Bool
 is_plain b = not (b == 40 || b == 41 || b == 39 || b == 47)
 
--- these tokens are cut from there on, or from behind plain bytes
+-- these tokens are cut from there on, or from after plain bytes
 pub record Waits (bytes : List ℕ) (at : ℕ) (ls : List Lexeme) (end : ℕ) : Type 0 where
   pub from : ℕ
   pub on : at ≤ from

@@ -62,7 +62,7 @@ reference_of v = reference_in (out-Value21 v)
 abbrev pub items_of : Value21 → Option (List Value21)
 items_of v = items_in (out-Value21 v)
 
--- the value that a typed value holds, behind its keyword
+-- the value that a typed value holds, after its keyword
 abbrev pub typed_of : Value21 → Option Value21
 typed_of v = typed_in (out-Value21 v)
 

@@ -365,7 +365,7 @@ fn instances_and_values_are_read(rt: HostRuntime) -> Result<(), Fail> {
     Ok(())
 }
 
-/// A number behind a keyword, one behind two, and one in a list behind a keyword.
+/// A number after a keyword, one after two, and one in a list after a keyword.
 static MEASURES: &[u8] = b"#1=A(IfcLengthMeasure /*mm*/ ( 25.4 ),B(C(1.)),B((1.)));";
 
 fn assert_measures(rt: &impl Abort, exchange: &Exchange) {

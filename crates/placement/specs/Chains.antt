@@ -60,7 +60,7 @@ pub record AreChains (world : List Instance) (named ids : List ℕ) : Type 0 whe
   pub ends : (id : ℕ) → Contains ids id → Ends world id
   pub few : length ids ≤ length world
 
--- want of memory is free
+-- out of memory is always allowed
 abbrev pub IsLoopCause : List Instance → List ℕ → BuildError → Type 0
 IsLoopCause world named (errors.Fault (faults.PlacementLoop id)) = IsLeastLoop world named id
 IsLoopCause world named (errors.Fault _) = ⊥

@@ -29,7 +29,7 @@ pub record Service : Type 0 where
 abbrev pub no_service : Service
 no_service = record { tells = false; one = None; settings = stated_settings 0 }
 
--- where there is one moment, a clock tells that one
+-- where there is one moment, a clock says that one
 abbrev pub TellsOne : Option ℕ → Option ℕ → Type 0
 TellsOne one told = IfSome one (λ moment. told ≡ Some moment)
 
@@ -47,7 +47,7 @@ pub record IsReady (s : Service) (turn : TurnState Settings) (pass : BookPass) (
   pub unnoted : lack ≡ nothing_lacked
 
 -- A door's connections were served by the pass of the door's number, from the first on: it had seen nothing before, and
--- then this, up to its turn `last`. `lack` says whether one of the sessions ended for want of memory, or of a turn.
+-- then this, up to its turn `last`. `lack` says whether one of the sessions ended out of memory, or without a turn.
 pub record LaneDone (s : Service) (seen : List Entry) (last : ℕ) (door : DoorSeen)
     (lack : Lack) : Type 0 where
   pub first : DoorSeen
@@ -110,7 +110,7 @@ last_turn last [] = last
 last_turn last (x ∷ xs) = last_turn (end_turn x) xs
 
 -- A door in one history: its connections were served by the pass of its number, each between the entries up to the turn
--- that stands at the one before and those up to its own, which never fall. The pass made no entry of a turn behind the last
+-- that stands at the one before and those up to its own, which never fall. The pass made no entry of a turn after the last
 -- of them. The door gave as many as stand there, and where doors tell what was given back, this one does and these are all.
 pub record DoorServed (s : Service) (history : List Entry) (door : DoorSeen) : Type 0 where
   pub links : List EndedLink
@@ -128,7 +128,7 @@ abbrev pub told_memory : Option (List EndedLink) → Bool
 told_memory None = false
 told_memory (Some ended) = some_memory ended
 
--- whether a session of this door ended for want of memory, where the door tells
+-- whether a session of this door ended out of memory, where the door tells
 abbrev pub lacked_memory : DoorSeen → Bool
 lacked_memory d = told_memory d.ended
 

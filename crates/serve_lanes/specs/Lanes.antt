@@ -29,7 +29,7 @@ kind_of (end.Spent n) = kind.Spent
 kind_of (end.SpentTurns n) = kind.SpentTurns
 kind_of (end.Memory n) = kind.Memory
 
--- whether a session of this kind of end ended for want of memory
+-- whether a session of this kind of end ended out of memory
 abbrev pub is_memory : EndKind → Bool
 is_memory kind.Memory = true
 is_memory _ = false
@@ -80,7 +80,7 @@ pub record ServedLink (one : Option ℕ) (settings : Settings) (number : ℕ) (b
       (outside x.link.source x.link.sink clock_after) end
 
 -- Connections, one after another: `serves` holds of each, of what was seen before it up to which turn, and of what was seen
--- behind it up to the turn that stands at it.
+-- after it up to the turn that stands at it.
 abbrev pub Chain : (List Entry → ℕ → EndedLink → List Entry → Type 0) → List Entry → ℕ → List EndedLink
     → List Entry → ℕ → Type 0
 Chain serves before last [] history top = (history ≡ before) × (top ≡ last)
@@ -93,7 +93,7 @@ IsBalanced d = IfSome d.ended (λ es. length es ≡ d.gave)
 
 -- A lane: its door gave these connections and its list grew by them, and they are a chain in what its pass came to see. A
 -- door that gave as many as it took back still does, and still tells them if it did. It is noted whether one of the
--- sessions ended for want of memory, or of a turn, and what was noted before stays.
+-- sessions ended out of memory, or without a turn, and what was noted before stays.
 pub record LaneServed (serves : List Entry → ℕ → EndedLink → List Entry → Type 0) (before : List Entry)
     (last : ℕ) (history : List Entry) (top : ℕ) (old new : DoorSeen) (noted noted' : Lack) : Type 0 where
   pub links : List EndedLink

@@ -64,7 +64,7 @@ fn spent_of<R: Wait>(rt: &R, turn: &Turn<Book>, pass: &mut Pass<Book>) -> Option
     }
 }
 
-// Notes whether a session ended for want of memory, or of a turn.
+// Notes whether a session ended out of memory, or without a turn.
 fn note<R: Wait>(rt: &R, turn: &Turn<Book>, pass: &mut Pass<Book>, kind: EndKind, lack: &mut Lack)
     requires own { IsSingle turn.now pass.old }
     requires spent { kind ≡ EndKind.SpentTurns → pass.old.made ≡ MOST_TURNS }
@@ -121,7 +121,7 @@ fn serve_next<R: Wait, D: Door, C: Clock, G: Gate>(
 
 /// Accepts, serves and gives back connection after connection, until the door is closed or fails, or so many were served; 0
 /// is no limit. Each is given back with the kind of its session's end and the last turn of the pass then. `lack` tells
-/// whether a session ended for want of memory, or of a turn.
+/// whether a session ended out of memory, or without a turn.
 pub fn serve_lane<R: Wait, D: Door, C: Clock, G: Gate>(
     rt: &R,
     alloc: Global,

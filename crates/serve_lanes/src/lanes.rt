@@ -9,6 +9,7 @@ ghost use Rattle.check_workers.specs.Joins.{IsNewWorker, WorkerOver, HasEach, Ar
 
 use crate::lane::{LaneEnd, serve_lane};
 use bim_io::Clock;
+use bim_model::know;
 use bim_net::{Door, Gate};
 use book_turn::call_fault::SpentPass;
 use book_turn::limits::MOST_PASSES;
@@ -41,7 +42,7 @@ pub struct Lane<D: Door + Drop, C: Clock + Drop> {
     pub clock: C,
     /// Why it serves no more.
     pub end: LaneEnd,
-    /// Whether one of its sessions ended for want of memory, or of a turn.
+    /// Whether one of its sessions ended out of memory, or without a turn.
     pub lack: Lack,
 }
 
@@ -218,7 +219,7 @@ fn join_lane<K: Serving, D: Door + Drop, C: Clock + Drop>(
     ensures joined { LanesJoined K.service links turn.now joined.new.into
         (map D.seen joined.new.doors.items) joined.new.failed joined.new.lack }
 {
-    let _links = links;
+    know(links);
     let Lane {
         pass,
         door,
@@ -343,7 +344,7 @@ pub struct Served<D: Door + Drop> {
     pub doors: Vec<D>,
     /// Whether a lane ended by a fault of its door.
     pub failed: bool,
-    /// Whether memory was wanting, for a session or for work.
+    /// Whether memory ran out, for a session or for work.
     pub memory: bool,
     /// A pass that had made all its turns.
     pub spent: Option<SpentPass>,

@@ -127,7 +127,7 @@ pub stays_alone : (settings : Settings) (old new : ServerState) → IsSettled se
 stays_alone settings old new ready same =
     subst (λ (z : ServerState). GoesAlone settings (seen_alone old) [] (seen_alone z)) (sym same) (alone_of settings old old [] ready (extends_none old))
 
--- ---- the work behind an answer
+-- ---- the work after an answer
 
 -- a standing of the caller is one at the book
 start_is : (settings : Settings) (buckets : Option ℕ) (old new : ServerState) → new.settings ≡ settings
@@ -154,7 +154,7 @@ worked_alone settings buckets old new ready works =
       subst (λ (z : Standing). Works z steps) (start_is settings buckets old new (e.settings ∙ ready.settings_are)) done,
     )
 
--- memory was wanting in it
+-- memory ran out in it
 pub stopped_alone : (settings : Settings) (buckets : Option ℕ) (old new : ServerState) (fault : AllocError) → IsSettled settings old → WorksSome buckets old new
     → WorksBehind settings buckets (GoesAlone settings) (seen_alone old) (Err fault) (seen_alone new)
 stopped_alone settings buckets old new fault ready works =

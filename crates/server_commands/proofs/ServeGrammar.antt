@@ -45,7 +45,7 @@ values_said f text addr counts text_is addr_is counted some by =
     let a = addr_is ∙ ap addr_said (found_value f (codes "addr") text text_is) in
     ap₂ said_with a (sym some ∙ by)
 
--- words that are taken say what their values do, or memory was wanting for it
+-- words that are taken say what their values do, or memory ran out for it
 pub words_served : (made : App) (lent words : List (List ℕ)) (found : Option ArgMatches) (m : ArgMatches) (said : Result (Option ServeWords) AllocError) → made ≡ serve_command
     → lent ≡ words → found ≡ Some m → IsParse made lent found → IfOk said (λ s. s ≡ serve_said (rows_of (found_of m))) → IfOk said (λ s. s ≡ serve_words words)
 words_served made lent words found m said same words_are found_is parse by =

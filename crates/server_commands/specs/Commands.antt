@@ -24,7 +24,7 @@ use Rattle.server_commands.specs.ServeCommand.{ServesBy, without_book}
 abbrev pub ReadsNothing : Outside → Outside → Type 0
 ReadsNothing before after = (after.source ≡ before.source) × (after.clock ≡ before.clock)
 
--- a session over so many projects is replayed, with so much work behind each answer, and its end decides the status
+-- a session over so many projects is replayed, with so much work after each answer, and its end decides the status
 pub record ReplaysTo (buckets : Option ℕ) (projects : ℕ) (before after : Outside) (status : ℕ) : Type 0 where
   pub end : SessionEnd
   pub status_is : status ≡ status_of end
@@ -51,11 +51,11 @@ abbrev pub DoesBy : Option ReplayWords → Outside → Outside → ℕ → Type 
 DoesBy None before after status = PrintsUsage before.sink after.sink status × ReadsNothing before after
 DoesBy (Some said) before after status = ReplaysBy said.time said.buckets said.projects before after status
 
--- memory was wanting for the words, and nothing was done
+-- memory ran out for the words, and nothing was done
 abbrev pub LacksWords : Outside → Outside → ℕ → Type 0
 LacksWords before after status = WantsMemory before.sink after.sink status × ReadsNothing before after
 
--- what `replay` does, or memory was wanting before it could
+-- what `replay` does, or memory ran out before it could
 abbrev pub Does : Option ReplayWords → Outside → Outside → ℕ → Type 0
 Does said before after status = DoesBy said before after status ⊎ LacksWords before after status
 
@@ -70,7 +70,7 @@ abbrev pub PrintsAlone : List (List ℕ) → List ℕ → SinkSeen → SinkSeen 
 PrintsAlone [] text old new status = PrintsText text old new status
 PrintsAlone (word ∷ words) text old new status = PrintsUsage old new status
 
--- a command other than `serve`, with the words behind its name
+-- a command other than `serve`, with the words after its name
 pub data Command : Type 0 where
   Replay : List (List ℕ) → Command
   Check : List (List ℕ) → Command
@@ -111,7 +111,7 @@ Runs (Some (Help words)) before after files files' status =
     PrintsAlone words HELP.now before.sink after.sink status × ReadsNothing before after
     × (files' ≡ files)
 
--- what words ask for: to serve by the words behind that name, or another command
+-- what words ask for: to serve by the words after that name, or another command
 pub data Asked : Type 0 where
   Serve : List (List ℕ) → Asked
   Other : Option Command → Asked

@@ -29,7 +29,7 @@ abbrev pub projects_said : Option (List ℕ) → Option ℕ
 projects_said None = Some 1
 projects_said (Some text) = number_word 1 MOST_PROJECTS text
 
--- how many buckets are worked behind each answered request, all where it isn't said
+-- how many buckets are worked after each answered request, all where it isn't said
 abbrev pub buckets_said : Option (List ℕ) → Option (Option ℕ)
 buckets_said None = Some None
 buckets_said (Some text) = option_map Some (number_word 0 MOST_BUCKETS text)
@@ -46,7 +46,7 @@ replay_said rows =
     all_said (time_said (first_of (codes "at") rows)) (buckets_said (first_of (codes "buckets") rows))
     (projects_said (first_of (codes "projects") rows))
 
--- what the words behind `replay` say: nothing where they are outside its grammar
+-- what the words after `replay` say: nothing where they are outside its grammar
 abbrev pub replay_words : List (List ℕ) → Option ReplayWords
 replay_words words = said_by replay_command replay_said words
 

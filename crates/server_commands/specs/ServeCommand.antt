@@ -17,7 +17,7 @@ use Rattle.server_commands.specs.declared.serve.Ended.{Ended}
 abbrev pub without_book : ℕ → Ended
 without_book status = record { status = status; book = None; spent = None }
 
--- the status of a server: want of memory stands before a pass that had made all its turns, and that before a failed door
+-- the status of a server: out of memory comes before a pass that had made all its turns, and that before a failed door
 abbrev pub status_by : Bool → Option ℕ → Bool → ℕ
 status_by true spent failed = 6
 status_by false (Some pass) failed = 7
@@ -43,7 +43,7 @@ service_of counts host = record {
 }
 
 -- Why a door serves no more: it is closed; or it failed, of which the status tells; or it gave as many connections as it was
--- to; or memory was wanting.
+-- to; or memory ran out.
 abbrev pub IsOverAt : ℕ → ℕ → DoorSeen → Type 0
 IsOverAt links status d =
     (d.closed ≡ true)
@@ -73,11 +73,11 @@ pub record ServesAll (counts : ServeCounts) (host host' : HostSeen) (book : Book
   pub known : (status ≡ 0) ⊎ ((status ≡ 4) ⊎ ((status ≡ 6) ⊎ (status ≡ 7)))
   pub buckets : (left_all book.settings.projects book.journal ≡ 0) ⊎ ((status ≡ 6) ⊎ (status ≡ 7))
 
--- memory was wanting before the first connection was accepted
+-- memory ran out before the first connection was accepted
 abbrev pub LacksLanes : HostSeen → HostSeen → Ended → Type 0
 LacksLanes host host' ended = (ended ≡ without_book 6) × (host' ≡ host)
 
--- doors that were opened were served, or memory was wanting before
+-- doors that were opened were served, or memory ran out before
 abbrev pub ServesDoors : ServeCounts → HostSeen → HostSeen → Ended → Type 0
 ServesDoors counts host host' ended =
     ((book : BookState) × (ended.book ≡ Some book) × ServesAll counts host host' book ended.status
@@ -92,7 +92,7 @@ OpensBy said host host' =
       opened = Some (record { addr = said.addr; doors = said.counts.lanes });
     }
 
--- Doors are opened once and served; or none could be opened, and the host failed; or memory was wanting before.
+-- Doors are opened once and served; or none could be opened, and the host failed; or memory ran out before.
 abbrev pub Serves : ServeWords → HostSeen → HostSeen → Ended → Type 0
 Serves said host host' ended =
     ((open_ : HostSeen) × OpensBy said host open_ × ServesDoors said.counts open_ host' ended)
@@ -104,6 +104,6 @@ abbrev pub Does : Option ServeWords → HostSeen → HostSeen → Ended → Type
 Does None host host' ended = (ended ≡ without_book 2) × (host' ≡ host)
 Does (Some said) host host' ended = Serves said host host' ended
 
--- the same, or memory was wanting for the words
+-- the same, or memory ran out for the words
 abbrev pub ServesBy : Option ServeWords → HostSeen → HostSeen → Ended → Type 0
 ServesBy said host host' ended = Does said host host' ended ⊎ LacksLanes host host' ended

@@ -54,7 +54,7 @@ said_with addr (Some counts) = Some (record { addr = addr; counts = counts })
 abbrev pub serve_said : List Row → Option ServeWords
 serve_said rows = said_with (addr_said (first_of (codes "addr") rows)) (counts_said rows)
 
--- what the words behind `serve` say: nothing where they are outside its grammar
+-- what the words after `serve` say: nothing where they are outside its grammar
 abbrev pub serve_words : List (List ℕ) → Option ServeWords
 serve_words words = said_by serve_command serve_said words
 

@@ -50,7 +50,7 @@ fn print_text<K: Sink>(text: &str, sink: &mut K) -> u8
     }
 }
 
-/// Prints a text where no words stand behind the command, else the usage line.
+/// Prints a text where no words stand after the command, else the usage line.
 pub fn print_alone<K: Sink>(words: &[Text], text: &str, sink: &mut K) -> u8
     ensures does { PrintsAlone words.now text.now (K.seen sink.old) (K.seen sink.new) result }
     ensures write { result ≡ 5 → Rose (K.seen sink.old).faults (K.seen sink.new).faults }

@@ -10,7 +10,7 @@ use federation_book::Book;
 use link_session::Caller;
 use std::alloc::{AllocError, Global};
 
-/// A caller by a book of its own with so many projects, which works behind each answer until no bucket is left, or so many
+/// A caller by a book of its own with so many projects, which works after each answer until no bucket is left, or so many
 /// buckets.
 #[derive(Drop)]
 pub struct Alone {

@@ -20,7 +20,7 @@ use std::alloc::Global;
 use std::sync::Wait;
 use std::thread::Threads;
 
-/// The exit status for want of memory.
+/// The exit status out of memory.
 const NO_MEMORY: u8 = 6;
 
 // Replays one recorded session by what the words say.
@@ -58,9 +58,9 @@ fn replay<S: Source, K: Sink, C: Clock>(
 }
 
 /// Replays one recorded session: reads requests from the source, answers them over a book of one thread, writes the
-/// responses to the sink, and behind each works the buckets that are to be checked, or as many as the words say. The words are those behind `replay`. It answers the exit status: 0 where the input ended
+/// responses to the sink, and after each works the buckets that are to be checked, or as many as the words say. The words are those after `replay`. It answers the exit status: 0 where the input ended
 /// between requests, 2 where the words are outside their grammar, 4 where a read failed, 5 where a write failed, 6
-/// where memory was wanting, and 7 where the session ended within a request, by a fault of its bytes, or after 10,000
+/// where memory ran out, and 7 where the session ended within a request, by a fault of its bytes, or after 10,000
 /// requests.
 pub fn run_replay<S: Source, K: Sink, C: Clock>(
     alloc: Global,
@@ -136,7 +136,7 @@ fn say_usage<K: Sink>(ended: Ended, sink: &mut K) -> Ended
 }
 
 /// Does what the command of the first word does, and answers how it ended. Another word is outside the grammar, so it prints
-/// the usage line and answers 2; so are words behind `serve` that it doesn't take.
+/// the usage line and answers 2; so are words after `serve` that it doesn't take.
 pub fn run<
     R: Threads + Wait + Sync,
     S: Source,

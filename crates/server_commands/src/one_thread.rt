@@ -8,7 +8,7 @@ ghost use Rattle.bim_session.specs.Replay.{stated_settings};
 ghost use Rattle.server_commands.specs.inner.Turns.{Calls, left_of};
 ghost use Rattle.server_commands.specs.inner.BucketWork.{WorksBucket, WorksPart, WorksUpTo, WorksLess, WorksAll, WorksSome};
 
-use bim_model::{Shared, Steps};
+use bim_model::{Shared, Steps, know};
 use book_history::{BookRequest, Limits, MOST_PROJECTS, ReplyBody, Stamp, WorkOrder};
 use book_turn::turn::Receipt;
 use bucket_check::{BucketSet, Room, check};
@@ -132,7 +132,7 @@ impl OneThread {
         ensures before { IsBefore (self.new.turns + 1) self.new.history }
         ensures settings { self.new.settings ≡ self.old.settings }
     {
-        let _book = &self.book;
+        know(&self.book);
         for _done in 0..most {
             if self.left_all() == 0 {
                 return Ok(());

@@ -28,7 +28,7 @@ pub fn status_of(end: SessionEnd) -> u8
     }
 }
 
-/// Reads requests, and answers them over a book of so many projects, until the session ends. Behind each answered
+/// Reads requests, and answers them over a book of so many projects, until the session ends. After each answered
 /// request buckets are worked until none is to be checked, at most so many where so many are said.
 pub fn replay_session<S: Source, K: Sink, C: Clock>(
     alloc: Global,

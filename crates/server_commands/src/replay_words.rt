@@ -26,13 +26,13 @@ pub enum Time {
 #[derive(Clone, Copy, Debug, PartialEq, Eq)]
 pub struct ReplayWords {
     pub time: Time,
-    /// How many buckets are worked behind each answered request, at most 1,000,000; all where it isn't said.
+    /// How many buckets are worked after each answered request, at most 1,000,000; all where it isn't said.
     pub buckets: Option<u64>,
     /// How many projects there are: 1 to 8.
     pub projects: u32,
 }
 
-// The command `replay`, of the words behind its name, without help.
+// The command `replay`, of the words after its name, without help.
 fn replay_command<'a>(alloc: Global) -> Result<Command<'a>, AllocError>
     ensures { IfOk result (λ command. app_of command ≡ replay_command) }
 {
@@ -111,8 +111,8 @@ fn replay_said(matches: &ArgMatches<'_>) -> Option<ReplayWords>
     all_said(time, buckets, projects)
 }
 
-/// What the words behind `replay` say, where they are in its grammar: `--at N` for a moment, at most 253,402,207,200,
-/// `--buckets N` for the work behind each answer, at most 1,000,000, and `--projects N`, from 1 to 8, in any order, each at most once, also spelled `--at=N`. A number is 1 to 20 digits.
+/// What the words after `replay` say, where they are in its grammar: `--at N` for a moment, at most 253,402,207,200,
+/// `--buckets N` for the work after each answer, at most 1,000,000, and `--projects N`, from 1 to 8, in any order, each at most once, also spelled `--at=N`. A number is 1 to 20 digits.
 pub fn replay_words(alloc: Global, words: &[Text]) -> Result<Option<ReplayWords>, AllocError>
     ensures words { IfOk result (λ said. said ≡ replay_words words.now) }
     ensures replay { IfOk result (λ said. IfSome said IsReplay) }

@@ -44,7 +44,7 @@ impl Ended {
     }
 }
 
-// How a server ended: want of memory stands before a pass that had made all its turns, and that before a door that failed.
+// How a server ended: out of memory comes before a pass that had made all its turns, and that before a door that failed.
 fn ended_of(book: Book, failed: bool, memory: bool, spent: Option<SpentPass>) -> Ended
     ensures { EndsAs book failed memory spent result }
 {
@@ -178,8 +178,8 @@ where
 
 /// Serves connections over a new book: opens a door for each lane, and runs the lanes and the workers, each in a thread of
 /// its own, until all lanes have ended. Then what is left is worked, the doors are closed, and the book is given back. The
-/// words are those behind `serve`. The exit status is 0; 2 where the words are outside their grammar; 4 where the doors
-/// couldn't be opened, or one failed; 6 where memory was wanting, also for a session; and 7 where a pass had made all its
+/// words are those after `serve`. The exit status is 0; 2 where the words are outside their grammar; 4 where the doors
+/// couldn't be opened, or one failed; 6 where memory ran out, also for a session; and 7 where a pass had made all its
 /// turns. 6 stands before 7, and 7 before 4. A fault of a connection ends its session alone.
 pub fn run_serve<
     R: Threads + Wait + Sync,

@@ -41,7 +41,7 @@ pub struct ServeWords {
     pub counts: ServeCounts,
 }
 
-// The command `serve`, of the words behind its name, without help.
+// The command `serve`, of the words after its name, without help.
 fn serve_command<'a>(alloc: Global) -> Result<Command<'a>, AllocError>
     ensures { IfOk result (λ command. app_of command ≡ serve_command) }
 {
@@ -123,7 +123,7 @@ fn serve_said(alloc: Global, matches: &ArgMatches<'_>) -> Result<Option<ServeWor
     Ok(Some(ServeWords { addr, counts }))
 }
 
-/// What the words behind `serve` say, where they are in its grammar: `--addr TEXT` for the address, `--lanes N`, from 1 to
+/// What the words after `serve` say, where they are in its grammar: `--addr TEXT` for the address, `--lanes N`, from 1 to
 /// 32, `--workers N`, from 1 to 8, `--links N`, at most 1,000,000, and `--projects N`, from 1 to 8, in any order, each at
 /// most once, also spelled `--addr=TEXT`. A number is 1 to 20 digits. Without them there are the address 127.0.0.1:8080, two
 /// lanes, one worker, no limit of connections and one project.

@@ -257,7 +257,7 @@ fn what_is_left_is_worked_at_the_end(rt: HostRuntime) -> Result<(), Fail> {
     Ok(())
 }
 
-// Lane 0 asks first once the worker has found nothing to do, and for the clashes once it stands before the call behind its
+// Lane 0 asks first once the worker has found nothing to do, and for the clashes once it stands before the call after its
 // fourth set: the worker works while the lane is served.
 #[test]
 fn a_worker_works_beside_a_lane(rt: HostRuntime) -> Result<(), Fail> {

@@ -9,7 +9,7 @@ use Rattle.spatial_tree.specs.inner.StoreyMarks.{mark_at}
 abbrev pub placed : ℕ → ℕ → Placed
 placed object storey = record { object = object; storey = storey }
 
--- the mark of the object at a place tells that storey
+-- the mark of the object at a place says that storey
 pub record Tells (objects : List ℕ) (marks : List Mark) (count object storey : ℕ) : Type 0 where
   pub place : ℕ
   pub within : place < count

@@ -37,7 +37,7 @@ pub record LeastTreeFault (world : List Instance) (fault : UploadFault) : Type 0
   pub told : fault ≡ faults.TreeFault id
   pub least : (lower : ℕ) → lower < id → HasTreeFault world lower → ⊥
 
--- why there is no tree; want of memory is free
+-- why there is no tree; out of memory is always allowed
 abbrev pub IsRefused : List Instance → BuildError → Type 0
 IsRefused world (Fault fault) = LeastTreeFault world fault
 IsRefused world Memory = Unit {0}

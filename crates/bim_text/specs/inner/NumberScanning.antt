@@ -16,7 +16,7 @@ abbrev pub sign_at : List ℕ → Sign
 sign_at [] = Unsigned
 sign_at (b ∷ bs) = if b == 43 then Plus else (if b == 45 then Minus else Unsigned)
 
--- the point at the front, with the digits behind it
+-- the point at the front, with the digits after it
 abbrev pub fraction_at : List ℕ → Option (List ℕ)
 fraction_at [] = None
 fraction_at (b ∷ bs) = if b == 46 then Some (front bs) else None
@@ -55,7 +55,7 @@ parts bs = record {
 abbrev pub wide : Few → Digits
 wide few = record { all = few.all; significand = few.significand; zeros = few.zeros }
 
--- One more digit: a zero is counted and, where there is room, put behind the others; another digit needs room.
+-- One more digit: a zero is counted and, where there is room, put after the others; another digit needs room.
 abbrev pub kept_zero : Digits → Digits
 kept_zero k = record {
   all = if nat_lt k.all (10 ^ (MOST_DIGITS - 1)) then k.all * 10 else k.all;

@@ -31,7 +31,7 @@ shifted i note = record {
   clear = clear_without i note.clear;
 }
 
--- the place, among n corners, that is behind the i-th once that is taken out
+-- the place, among n corners, that is after the i-th once that is taken out
 abbrev pub place_behind : ℕ → ℕ → ℕ
 place_behind n i = if i == n then 0 else i
 
@@ -41,13 +41,13 @@ settles Convex held = held
 settles Straight held = true
 settles Reflex held = true
 
--- the note of a corner, with its triangle searched, tells that it is an ear of n corners
+-- the note of a corner, with its triangle searched, says that it is an ear of n corners
 abbrev pub tells_at : Angle → Bool → Bool
 tells_at Convex whole = whole
 tells_at Straight whole = false
 tells_at Reflex whole = false
 
--- a note tells that its corner is an ear
+-- a note says that its corner is an ear
 abbrev pub tells_ear : Note → ℕ → Bool
 tells_ear note n = tells_at note.angle (note.clear == n)
 

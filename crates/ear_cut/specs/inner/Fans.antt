@@ -13,7 +13,7 @@ spot_at view left i = seen view.axis (slice_index_or left i nobody).point
 abbrev pub area_at : View → List Corner → ℕ → ℕ → ℕ → ℤ
 area_at view left i j k = area view (spot_at view left i) (spot_at view left j) (spot_at view left k)
 
--- the i-th corner is behind the one before it round the last corner, less than half a turn behind the first, and convex
+-- the i-th corner is after the one before it round the last corner, less than half a turn after the first, and convex
 pub record IsFanAt (view : View) (left : List Corner) (i : ℕ) : Type 0 where
   pub round : pos 0 <ℤ area_at view left (length left - 1) (i - 1) i
   pub half : pos 0 <ℤ area_at view left (length left - 1) 0 i

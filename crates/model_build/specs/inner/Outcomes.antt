@@ -31,7 +31,7 @@ use Rattle.ifc_elements.specs.Sound.{IsSoundSet, AreSets}
 use Rattle.model_build.specs.Triangles.{most_triangles}
 use Rattle.ifc_elements.specs.ElementReadiness.{IsReady}
 
--- the error has that fault; want of memory is free
+-- the error has that fault; out of memory is always allowed
 abbrev pub IsErrorOf : Stage → BuildError → Type 0
 IsErrorOf S (errors.Fault fault) = S fault
 IsErrorOf S errors.Memory = Unit {0}

@@ -30,7 +30,7 @@ use Rattle.walk_rows.specs.Pools.{pooled}
 
 -- Pieces.
 
--- Pieces were added, which show these items one behind another; so many triangles more.
+-- Pieces were added, which show these items one after another; so many triangles more.
 pub record AddsPieces (world : List Instance) (scale : Scale) (mode : Mode)
     (points : List (Option (List Point))) (sets : List (Option SetRows)) (items : List Instance)
     (old new : List Piece) (before count : ℕ) : Type 0 where
@@ -97,7 +97,7 @@ pub record IsSketch (world : List Instance) (scale : Scale) (mode : Mode) (stock
   pub shows : ShowsItems world scale mode stock (body_items world i) sketch.range
   pub near : IsNearSketch stock sketch
 
--- such an element and its sketch were added, each behind those before; it has so many triangles
+-- such an element and its sketch were added, each after those before; it has so many triangles
 pub record Draws (world : List Instance) (scale : Scale) (mode : Mode) (stock : Stock) (i : Instance)
     (old new : Drawn) (count : ℕ) : Type 0 where
   pub element : Element

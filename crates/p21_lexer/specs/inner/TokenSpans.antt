@@ -29,7 +29,7 @@ is_bang b = b == 33
 unfoldable pub word_span : List ℕ → Option ℕ
 word_span bs = option_map (λ n. one is_bang bs + n) (plain_word_span (drop (one is_bang bs) bs))
 
--- behind the point
+-- after the point
 abbrev pub closed_span : (ℕ → Bool) → ℕ → List ℕ → Option ℕ
 closed_span p close bs = if one (λ b. b == close) (drop (run p bs) bs) == 1 then Some (run p bs + 1) else None
 
@@ -45,7 +45,7 @@ bits_span bs = if nat_lt 0 (run is_hexadecimal bs) then closed_span is_hexadecim
 abbrev pub is_point : ℕ → Bool
 is_point b = b == 46
 
--- the length of a point with the digits behind it, or nothing
+-- the length of a point with the digits after it, or nothing
 unfoldable pub fraction_span : List ℕ → ℕ
 fraction_span bs = if one is_point bs == 1 then run is_digit (drop 1 bs) + 1 else 0
 
@@ -86,14 +86,14 @@ abbrev pub or_first : Option ℕ → Option ℕ
 or_first None = Some 1
 or_first (Some n) = Some (n + 2)
 
--- behind the opening apostrophe
+-- after the opening apostrophe
 abbrev pub text_span : List ℕ → Option ℕ
 text_span [] = None
 text_span (b ∷ []) = if b == 39 then Some 1 else None
 text_span (b ∷ c ∷ bs) = if b == 39 then
     (if c == 39 then or_first (text_span bs) else Some 1) else option_map (λ n. n + 1) (text_span (c ∷ bs))
 
--- the length of an instance's number behind its mark, if there is one
+-- the length of an instance's number after its mark, if there is one
 abbrev pub name_span : List ℕ → Option ℕ
 name_span bs = if nat_lt 0 (name_run 0 bs) then Some (name_run 0 bs) else None
 

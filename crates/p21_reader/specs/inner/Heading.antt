@@ -61,7 +61,7 @@ signs_of (w ∷ ws) = signs_of ws ++ sign_of w ∷ []
 abbrev pub Follows : Sign → Class → List Sign → List Sign → Type 0
 Follows s c old new = (σ : List Sign) × (next s c ≡ Some σ) × (new ≡ σ ++ old)
 
--- memory is wanting, or the token can't follow
+-- memory runs out, or the token can't follow
 abbrev pub FollowsNot : Sign → List ℕ → Token → ReadFault → Type 0
 FollowsNot s bytes t fault = (fault ≡ faults.Memory)
     ⊎ ((fault ≡ faults.BadStatement t.start) × (next s (class_of (lexeme_of bytes t)) ≡ None))
@@ -70,7 +70,7 @@ FollowsNot s bytes t fault = (fault ≡ faults.Memory)
 abbrev pub ending : List Class
 ending = grammar.Word grammar.EndSec ∷ grammar.Semi ∷ grammar.Word grammar.Data ∷ grammar.Semi ∷ []
 
--- What stands at a place behind an opening parenthesis: one value, a list of one text, and the closing parenthesis.
+-- What stands at a place after an opening parenthesis: one value, a list of one text, and the closing parenthesis.
 abbrev pub OnlyText : List ℕ → ℕ → List ℕ → Type 0
 OnlyText bytes at spelled = (end : ℕ) × Cuts bytes at (Opening ∷ WordsOf spelled ∷ Closing ∷ Closing ∷ []) end
 
@@ -118,7 +118,7 @@ ReadsStatements bytes at (Ok head) =
     × (IsTrue head.is_ifc4 ↔ NamesIfc4 statements)
 ReadsStatements bytes at (Err fault) = Fails (grammar.Statements ∷ []) bytes at fault
 
--- the same behind HEADER and its semicolon
+-- the same after HEADER and its semicolon
 abbrev pub ReadsHeader : List ℕ → ℕ → Result Head ReadFault → Type 0
 ReadsHeader bytes at (Ok head) =
     (statements : List Statement) × (front : List Lexeme) × (middle : List Lexeme) × (closing : List Lexeme)

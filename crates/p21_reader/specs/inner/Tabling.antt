@@ -33,13 +33,13 @@ PassesRow bytes at level before after reached =
     ⊎ ((level.top ≡ tops.Inside) × (reached.level.top ≡ tops.Behind) × (reached.level.depth ≡ level.depth - 1)
     × EndsRow bytes at reached.end × Counts before after 3)
 
--- nothing is passed over, or lists of three numbers, each behind a comma, and each is counted as four values
+-- nothing is passed over, or lists of three numbers, each after a comma, and each is counted as four values
 abbrev pub PassesRows : List ℕ → ℕ → ℕ → ℕ → ℕ → Type 0
 PassesRows bytes at before after end =
     ((end ≡ at) × (after ≡ before))
     ⊎ ((many : ℕ) × HasRows many bytes at end × Counts before after (4 * many))
 
--- nothing more is passed over, or such lists, behind a value of a list that may hold lists
+-- nothing more is passed over, or such lists, after a value of a list that may hold lists
 abbrev pub PassesMore : List ℕ → ℕ → List Bool → Reached → ℕ → ℕ → Reached → Type 0
 PassesMore bytes most typed old before after new =
     ((new ≡ old) × (after ≡ before))
@@ -53,19 +53,19 @@ PassesValue depth bytes t before after (Ok end) =
     (v : Value21) × ReadsValue depth bytes t end v × Counts before after (size v)
 PassesValue depth bytes t before after (Err fault) = FailsAfter (Value (Some depth)) bytes t fault
 
--- the start of a value whose first token is given comes behind those before
+-- the start of a value whose first token is given comes after those before
 abbrev pub PutsStart : ℕ → List ℕ → Token → Table → Table → Result ℕ ReadFault → Type 0
 PutsStart depth bytes t old new (Ok end) =
     (v : Value21) × ReadsValue depth bytes t end v × (new.starts.items ≡ old.starts.items ++ t.start ∷ [])
     × Counts old.values new.values (size v)
 PutsStart depth bytes t old new (Err fault) = FailsAfter (Value (Some depth)) bytes t fault
 
--- the start of the next value comes behind those before; the value ends there
+-- the start of the next value comes after those before; the value ends there
 abbrev pub PutsFirst : ℕ → List ℕ → ℕ → Table → Table → ℕ → Type 0
 PutsFirst depth bytes at old new end =
     (item : Token) × CutsFrom bytes at (Ok (Some item)) × PutsStart depth bytes item old new (Ok end)
 
--- the start of a value behind a comma comes behind those before; the value ends there
+-- the start of a value behind a comma comes after those before; the value ends there
 abbrev pub PutsBehind : ℕ → List ℕ → ℕ → Table → Table → ℕ → Type 0
 PutsBehind depth bytes at old new end =
     (comma item : Token) × CutsFrom bytes at (Ok (Some comma)) × (lexeme_of bytes comma ≡ Separator)
@@ -82,7 +82,7 @@ PutsMany (suc many) depth bytes at old new end =
 abbrev pub PutsMore : ℕ → List ℕ → ℕ → Table → Table → ℕ → Type 0
 PutsMore depth bytes at old new end = (many : ℕ) × PutsMany many depth bytes at old new end
 
--- the starts of the values behind an opening parenthesis, up to and with the closing one, come behind those before
+-- the starts of the values behind an opening parenthesis, up to and with the closing one, come after those before
 abbrev pub PutsStarts : ℕ → List ℕ → ℕ → Table → Table → Result ℕ ReadFault → Type 0
 PutsStarts depth bytes at old new (Ok end) =
     (starts : List ℕ) × (vs : List Value21) × (new.starts.items ≡ old.starts.items ++ starts)
@@ -100,7 +100,7 @@ PutsBody bytes t old new (Ok end) =
     × Counts old.values new.values (sum_by size vs)
 PutsBody bytes t old new (Err fault) = FailsAfter Body bytes t fault
 
--- an instance whose name is given comes behind those before
+-- an instance whose name is given comes after those before
 abbrev pub PutsInstance : Lexeme → List ℕ → ℕ → Table → Table → Result ℕ ReadFault → Type 0
 PutsInstance name bytes at old new (Ok end) =
     (i : Instance) × (head : Head) × (starts : List ℕ) × (rest : List Lexeme)

@@ -26,7 +26,7 @@ IsRefused s bytes at p = (CutsFrom bytes at (Ok None) × (p ≡ length bytes))
     ⊎ ((t : Token) × CutsFrom bytes at (Ok (Some t)) × (p ≡ t.start)
     × (next s (class_of (lexeme_of bytes t)) ≡ None))
 
--- why reading doesn't go on at a place: no token begins there, or a sign refuses it, or memory is wanting
+-- why reading doesn't go on at a place: no token begins there, or a sign refuses it, or memory runs out
 abbrev pub IsStuck : Sign → List ℕ → ℕ → ReadFault → Type 0
 IsStuck s bytes at (faults.BadToken p) = CutsFrom bytes at (Err (lex.BadToken p))
 IsStuck s bytes at (faults.BadStatement p) = IsRefused s bytes at p
@@ -85,7 +85,7 @@ StopsAfter s bytes t fault = ((fault ≡ faults.BadStatement t.start)
     ⊎ ((wanted : List Sign) × (next s (class_of (lexeme_of bytes t)) ≡ Some wanted)
     × Stops wanted bytes t.end fault)
 
--- reading fails behind a token
+-- reading fails after a token
 abbrev pub FailsAfter : Sign → List ℕ → Token → ReadFault → Type 0
 FailsAfter s bytes t (faults.BadToken p) = StopsAfter s bytes t (faults.BadToken p)
 FailsAfter s bytes t (faults.BadStatement p) = StopsAfter s bytes t (faults.BadStatement p)

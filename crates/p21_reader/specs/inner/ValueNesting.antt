@@ -7,13 +7,13 @@ use Rattle.p21_values.specs.declared.piece.Kind.TheVariants as kinds
 use Rattle.p21_values.specs.Grammar.{Close, Open, Sign, T, Value, Inside, After}
 use Rattle.p21_values.specs.Lexemes.{Lexeme, NumberOf, Separator, Opening, Closing, Cuts}
 
--- behind a value, the innermost level first
+-- after a value, the innermost level first
 abbrev pub wanted : ℕ → ℕ → List Bool → List Sign
 wanted most zero typed = []
 wanted most (suc k) typed =
     (if slice_index_or typed k false then T Close else After (Some (most - suc k))) ∷ wanted most k typed
 
--- a value, the inside of a list, the opening parenthesis behind a keyword, or what stands behind a value
+-- a value, the inside of a list, the opening parenthesis after a keyword, or what stands behind a value
 abbrev pub signs : ℕ → Top → ℕ → List Bool → List Sign
 signs most tops.Value depth typed = Value (Some (most - depth)) ∷ wanted most depth typed
 signs most tops.Inside depth typed = Inside (Some (most - depth)) ∷ wanted most (depth - 1) typed
@@ -32,19 +32,19 @@ tells kinds.Name = 1
 tells kinds.Open = 1
 tells _ = 0
 
--- what is left of a list of three numbers behind its opening parenthesis
+-- what is left of a list of three numbers after its opening parenthesis
 abbrev pub row_rest : List ℕ → List ℕ → List ℕ → List Lexeme
 row_rest x y z = NumberOf x ∷ Separator ∷ NumberOf y ∷ Separator ∷ NumberOf z ∷ Closing ∷ []
 
--- three numbers with commas between and a closing parenthesis are cut there, one behind another
+-- three numbers with commas between and a closing parenthesis are cut there, one after another
 abbrev pub EndsRow : List ℕ → ℕ → ℕ → Type 0
 EndsRow bytes at end = (x y z : List ℕ) × Cuts bytes at (row_rest x y z) end
 
--- a list of three numbers behind a comma is cut there
+-- a list of three numbers after a comma is cut there
 abbrev pub HasRow : List ℕ → ℕ → ℕ → Type 0
 HasRow bytes at end = (x y z : List ℕ) × Cuts bytes at (Separator ∷ Opening ∷ row_rest x y z) end
 
--- as many such lists, one behind another
+-- as many such lists, one after another
 abbrev pub HasRows : ℕ → List ℕ → ℕ → ℕ → Type 0
 HasRows zero bytes at end = at ≡ end
 HasRows (suc many) bytes at end = (mid : ℕ) × HasRows many bytes at mid × HasRow bytes mid end

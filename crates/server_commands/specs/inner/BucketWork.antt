@@ -12,7 +12,7 @@ use Rattle.server_commands.specs.inner.Turns.{ServerState, with_turn, stamp_of, 
 abbrev pub GivesOut : ServerState → OrderValue → Type 0
 GivesOut s order = (reply_of s.settings s.history (stamp_of (s.turns + 1)) (TakeWork 0)).body ≡ Work order
 
--- a bucket is given out at the next turn, and its set is brought at the turn behind that
+-- a bucket is given out at the next turn, and its set is brought at the turn after that
 pub record WorksBucket (old new : ServerState) : Type 0 where
   pub order : OrderValue
   pub set : SetValue
@@ -25,7 +25,7 @@ abbrev pub WorksPart : ServerState → ServerState → Type 0
 WorksPart old new =
     (new ≡ old) ⊎ ((order : OrderValue) × GivesOut old order × (new ≡ with_turn (TakeWork 0) old))
 
--- so many buckets are worked, one behind the other
+-- so many buckets are worked, one after the other
 abbrev pub WorksTimes : ServerState → ℕ → ServerState → Type 0
 WorksTimes old zero new = new ≡ old
 WorksTimes old (suc count) new =

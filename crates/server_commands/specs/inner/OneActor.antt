@@ -18,12 +18,12 @@ seen_alone s = record {
   made = s.turns;
 }
 
--- its book has these settings, and no entry of a turn behind the last
+-- its book has these settings, and no entry of a turn after the last
 pub record IsSettled (settings : Settings) (s : ServerState) : Type 0 where
   pub settings_are : s.settings ≡ settings
   pub before : IsBefore (s.turns + 1) s.history
 
--- It went from v to w by these steps, a turn each. Behind any run with one actor by as many steps as v had taken turns,
+-- It went from v to w by these steps, a turn each. After any run with one actor by as many steps as v had taken turns,
 -- which made what v had seen, they go on as such a run, which makes what w has seen.
 pub record GoesAlone (settings : Settings) (v : CallerSeen) (steps : List Step)
     (w : CallerSeen) : Type 0 where

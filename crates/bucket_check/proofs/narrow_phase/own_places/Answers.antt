@@ -7,7 +7,7 @@ use Rattle.bucket_check.proofs.narrow_phase.own_places.Goals as goal
 pub found_among-requires-clause-few : goal.found_among-requires-clause-few
 found_among-requires-clause-few g c =
     let m = members_are c.args.grid.now.boxes c.args.cell c.members_in_turn-members.result.now c.members_in_turn-members.ensures.bucket c.members_in_turn-members.ensures.none in
-    omega (arith, m.few, ap length c.boxes-boxes.ensures.boxes, c.boxes-boxes.ensures.small)
+    omega (arith, m.few, ap length c.boxes.ensures.boxes, c.boxes.ensures.small)
 
 pub found_among-requires-clause-members_in : goal.found_among-requires-clause-members_in
 found_among-requires-clause-members_in g c =

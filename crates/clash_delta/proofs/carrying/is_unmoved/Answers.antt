@@ -15,7 +15,7 @@ use Rattle.clash_delta.proofs.carrying.is_unmoved.Goals as goal
 pub are_from-requires : goal.are_from-requires
 are_from-requires c =
     let after = c.args.after.now in
-    let second = subst (λ (l : List Extent). AreBoxes (subjects after) l) c.boxes-others.ensures.boxes c.boxes-others.ensures.boxed in
+    let second = subst (λ (l : List Extent). AreBoxes (subjects after) l) c.boxes-2.ensures.boxes c.boxes-2.ensures.boxed in
     let n = zip_length (IsNumberBefore (subjects c.args.before.now)) (subjects after) c.args.numbers.now c.requires.numbers in
     let low = members_inside after.boxes (subjects after) c.args.bucket.now.cell c.as_slice-2.result.now second (c.as_slice-2.ensures ∙ c.requires.members) in
     λ k d h. omega (arith, low k d h, n)
@@ -24,9 +24,9 @@ pub returns : goal.returns
 returns c =
     let before = c.args.before.now in
     let after = c.args.after.now in
-    let rising = subst (λ (ms : List NamedModel). AllPairs IsBelow (subjects_of ms)) c.models-models.ensures.same (subjects_rise c.models-models.result.now c.models-models.ensures.snapshot) in
-    let first = subst (λ (l : List Extent). AreBoxes (subjects before) l) c.boxes-boxes.ensures.boxes c.boxes-boxes.ensures.boxed in
-    let second = subst (λ (l : List Extent). AreBoxes (subjects after) l) c.boxes-others.ensures.boxes c.boxes-others.ensures.boxed in
+    let rising = subst (λ (ms : List NamedModel). AllPairs IsBelow (subjects_of ms)) c.models.ensures.same (subjects_rise c.models.result.now c.models.ensures.snapshot) in
+    let first = subst (λ (l : List Extent). AreBoxes (subjects before) l) c.boxes.ensures.boxes c.boxes.ensures.boxed in
+    let second = subst (λ (l : List Extent). AreBoxes (subjects after) l) c.boxes-2.ensures.boxes c.boxes-2.ensures.boxed in
     let table = subst (λ (l : List Bucket). IsTable before.boxes l) c.buckets-buckets.ensures.buckets c.buckets-buckets.ensures.table in
     let n = ap length c.buckets-buckets.ensures.buckets in
     let e = c.index-buckets-place.is ∙ ap (λ (l : List Bucket). get_or l c.args.place c.index-buckets-place.result) c.buckets-buckets.ensures.buckets in

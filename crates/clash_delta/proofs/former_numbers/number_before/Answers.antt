@@ -18,7 +18,7 @@ returns-then-is_same c =
 pub returns-else-old-places : goal.returns-else-old-places
 returns-else-old-places c =
     let n = zip_length (IsPlace _) _ _ c.places.ensures.placed in
-    let rising = subst (λ (ms : List NamedModel). AllPairs IsBelow (subjects_of ms)) c.models-models.ensures.same (subjects_rise c.models-models.result.now c.models-models.ensures.snapshot) in
+    let rising = subst (λ (ms : List NamedModel). AllPairs IsBelow (subjects_of ms)) c.models.ensures.same (subjects_rise c.models.result.now c.models.ensures.snapshot) in
     none_before (subjects c.args.before.now) rising (subject_of c.args.after.now c.args.new) c.args.old c.requires.old
     (elim c.else-old-places.branch [
       | else-old-places-via-then-old-places+else-is_same w ↦ (λ h same. true≢false (sym (w.is_same.ensures.1 same) ∙ w.if-is_same.false))

@@ -21,7 +21,7 @@ loop-new-preserved c =
     let n = zip_length (IsPlace _) _ _ c.places-count.ensures.placed in
     let before = subjects c.args.before.now in
     let after = subjects c.args.after.now in
-    let rising = subst (λ (ms : List NamedModel). AllPairs IsBelow (subjects_of ms)) c.models-models.ensures.same (subjects_rise c.models-models.result.now c.models-models.ensures.snapshot) in
+    let rising = subst (λ (ms : List NamedModel). AllPairs IsBelow (subjects_of ms)) c.models.ensures.same (subjects_rise c.models.result.now c.models.ensures.snapshot) in
     let reached = c.first_not_below-old.ensures.reached in
     record {
       numbers = numbers_more before after c.loop-new.new c.loop-new.numbers.items _ c.number_before.result (omega (arith, n, c.loop-new-test.true)) c.loop-new.invariant.numbers c.number_before.ensures c.in_ok-push.ensures.items;

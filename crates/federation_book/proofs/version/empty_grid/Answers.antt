@@ -15,4 +15,4 @@ unreachable-requires c =
 
 pub returns-in-Ok-clause-buckets : goal.returns-in-Ok-clause-buckets
 returns-in-Ok-clause-buckets c =
-    no_buckets c.in-Ok.grid c.know.ensures (ap (λ (v : Version). v.models) (c.in-Ok.ensures.version ∙ c.requires))
+    no_buckets c.in-Ok.grid c.know_grid.ensures (ap (λ (v : Version). v.models) (c.in-Ok.ensures.version ∙ c.requires))

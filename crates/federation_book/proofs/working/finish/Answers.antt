@@ -226,7 +226,7 @@ returns-clause-kept c =
     let there : w.version < length s.versions = omega (arith, n, made, second.within) in
     let content = ap (λ (g : GridValue). g.version) c.get-2.ensures ∙ given.content in
     let bucket = subst (λ (g : GridValue). IsBucket g.boxes w.cell) (sym c.get-2.ensures) given.bucket in
-    let less = left_less (version_at s.versions w.version) c.get-2.result.now w.cell c.know.ensures content bucket open_ in
+    let less = left_less (version_at s.versions w.version) c.get-2.result.now w.cell c.know_grid.ensures content bucket open_ in
     let fewer = left_done q s w.version c.place_of-place.result w.cell l second there less in
     let done : Project = record { board = q.board; newest = q.newest; live = with_item q.live c.place_of-place.result c.put-left.new.self } in
     let after : State = record { limits = old.limits; projects = with_item old.projects (w.project - 1) done; entries = c.push_reserved.new.self; triangles = old.triangles; text = old.text } in

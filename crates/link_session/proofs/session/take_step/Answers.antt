@@ -1,7 +1,7 @@
 use Rattle.std.proofs.Common.{refl, inl, inr, ap}
 use Rattle.bim_session.specs.declared.end.SessionEnd.TheVariants as end
 use Rattle.bim_session.specs.declared.want.Want.TheVariants.{More, Write, Call, Leave}
-use Rattle.link_session.specs.declared.session.Progress.TheVariants.{End}
+use Rattle.link_session.specs.declared.session.AfterStep.TheVariants.{End}
 use Rattle.link_session.proofs.session.take_step.Goals as goal
 
 pub returns-in-Ok-More-clause-step : goal.returns-in-Ok-More-clause-step

@@ -10,6 +10,6 @@ returns-clause-models c = search (rules, put_in_place)
 pub invariant_of-result : goal.invariant_of-result
 invariant_of-result c =
     let e : c.push_above.new.made.items ≡ with_model c.args.model c.args.self.now.models = search (rules, put_in_place) in
-    let new : IsModel c.args.model.model = subst IsModel (c.elements-elements.ensures.same ∙ c.get.ensures) c.elements-elements.ensures.model in
+    let new : IsModel c.args.model.model = subst IsModel (c.elements.ensures.same ∙ c.get.ensures) c.elements.ensures.model in
     subst IsSnapshot (sym e)
     (with_model_rises _ _ new (subst IsSnapshot (ap (λ (v : Version). v.models) c.self.view_is) c.self.invariant))

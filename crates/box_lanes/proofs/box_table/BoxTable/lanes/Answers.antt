@@ -13,7 +13,7 @@ use Rattle.box_lanes.proofs.box_table.BoxTable.lanes.Goals as goal
 pub index-block-requires : goal.index-block-requires
 index-block-requires c =
     let n : c.args.self.now ≡ boxes_in c.self.inside = sym c.self.view_is in
-    omega (arith, block_in c.self.inside.blocks.items (boxes_in c.self.inside) c.args.at c.self.invariant.blocks (omega (arith, c.requires.within, ap length n)), ap length c.as_slice-blocks.ensures.value, c.as_slice-blocks.ensures.len)
+    omega (arith, block_in c.self.inside.blocks.items (boxes_in c.self.inside) c.args.at c.self.invariant.blocks (omega (arith, c.requires.within, ap length n)), ap length c.as_slice.ensures.value, c.as_slice.ensures.len)
 
 pub returns : goal.returns
 returns c =

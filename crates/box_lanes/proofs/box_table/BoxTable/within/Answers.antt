@@ -28,7 +28,7 @@ returns c =
     let g = c.args.grow in
     let met = meets c.reach_of-reach.result in
     let near = is_within p g in
-    let fits = c.len-count.ensures.fits in
+    let fits = c.len.ensures.fits in
     let probe = c.reach_of-reach.ensures.fits in
     let least : Point = record { x = negsuc 2147483647; y = negsuc 2147483647; z = negsuc 2147483647 } in
     let all : (b : Extent) → is_within_from least g p b ≡ near b = λ b.

@@ -15,10 +15,10 @@ pub returns-clause-owned : goal.returns-clause-owned
 returns-clause-owned c =
     let grid = c.self.inside.work.grid in
     let cell = c.self.inside.work.cell in
-    let few : IsRules grid.version.rules = subst (λ (l : List Rule). IsRules l) (c.rules-rules.ensures.same ∙ ap (λ (v : GridValue). v.version.rules) c.get.ensures) c.rules-rules.ensures.rules in
+    let few : IsRules grid.version.rules = subst (λ (l : List Rule). IsRules l) (c.rules.ensures.same ∙ ap (λ (v : GridValue). v.version.rules) c.get.ensures) c.rules.ensures.rules in
     let are : AreBoxes (subjects_of grid.version.models) grid.boxes =
     subst (λ (v : GridValue). AreBoxes (subjects_of v.version.models) v.boxes) c.get-2.ensures
-    (subst (λ (l : List Extent). AreBoxes (subjects_of c.get-2.result.now.version.models) l) c.boxes-boxes.ensures.boxes c.boxes-boxes.ensures.boxed) in
+    (subst (λ (l : List Extent). AreBoxes (subjects_of c.get-2.result.now.version.models) l) c.boxes.ensures.boxes c.boxes.ensures.boxed) in
     let is = c.as_slice.ensures ∙ c.get-3.ensures ∙ c.self.invariant in
     subst (λ (v : SetValue). map (pair_at (members v.work.grid.boxes v.work.cell)) c.as_slice.result.now ≡ own_clashes v.work.grid.version v.work.grid.boxes v.work.cell) c.self.view_is
     (ap (map (pair_at (members grid.boxes cell))) is ∙ found grid.version grid.boxes cell few are)

@@ -35,7 +35,7 @@ returns-in-Some-clause-taken c =
 
 pub returns-in-Some-clause-of : goal.returns-in-Some-clause-of
 returns-in-Some-clause-of c grid of g =
-    let pairs = subst (λ (s : SetValue). s.pairs ≡ own_places s.work.grid s.work.cell) c.get.ensures (sym c.pairs-pairs.ensures.same ∙ c.pairs-pairs.ensures.found) in
+    let pairs = subst (λ (s : SetValue). s.pairs ≡ own_places s.work.grid s.work.cell) c.get.ensures (sym c.pairs.ensures.same ∙ c.pairs.ensures.found) in
     subst (IsOf grid) (sym c.fill.ensures.slots) (filled_of grid c.args.set c.args.self.now pairs of g)
 
 pub returns-in_default-clause-slots : goal.returns-in_default-clause-slots

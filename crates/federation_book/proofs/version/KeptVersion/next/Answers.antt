@@ -13,8 +13,8 @@ returns c =
     let v = c.self.inside in
     let after = c.in_ok-grid.grid in
     let made = c.in_ok-progress.progress in
-    let h = subst HasParts c.get.ensures c.know.ensures in
-    let k = subst HasParts c.get-2.ensures c.know-2.ensures in
+    let h = subst HasParts c.get.ensures c.know_grid.ensures in
+    let k = subst HasParts c.get-2.ensures c.know_grid-2.ensures in
     let carried = subst (λ (g : GridValue). (cell : Cell) → IsDone made cell ↔ IsCarried v.progress g after cell) c.get-3.ensures c.in_ok-progress.ensures.done in
     let holds = ap (λ (g : GridValue). g.version) c.in_ok-grid.ensures ∙ c.requires in
     made_is v.grid after h k v.progress made c.self.invariant.1 c.in_ok-progress.ensures.of carried v.snapshot c.args.snapshot c.self.invariant.0 holds

@@ -14,8 +14,8 @@ pub put-answer-requires : goal.put-answer-requires
 put-answer-requires c =
     let v = c.self.inside in
     let set = c.args.set in
-    let h = subst HasParts c.get.ensures c.know.ensures in
-    let k = subst HasParts (c.get-3.ensures ∙ ap (λ (w : BucketWork). w.grid) (c.work.ensures ∙ ap (λ (s : SetValue). s.work) c.get-2.ensures)) c.know-2.ensures in
+    let h = subst HasParts c.get.ensures c.know_grid.ensures in
+    let k = subst HasParts (c.get-3.ensures ∙ ap (λ (w : BucketWork). w.grid) (c.work.ensures ∙ ap (λ (s : SetValue). s.work) c.get-2.ensures)) c.know_grid-2.ensures in
     let one = one_grid set.work.grid v.grid k h (c.requires.content ∙ sym (ap (λ (w : VersionState). w.content) c.self.view_is) ∙ sym c.self.invariant.0) in
     record { bucket = bucket_of v.grid h v.progress c.self.invariant.1 set.work.cell (subst (λ (g : GridValue). IsBucket g.boxes set.work.cell) one c.requires.bucket) }
 
@@ -23,8 +23,8 @@ pub invariant_of-self : goal.invariant_of-self
 invariant_of-self c =
     let v = c.self.inside in
     let set = c.args.set in
-    let h = subst HasParts c.get.ensures c.know.ensures in
-    let k = subst HasParts (c.get-3.ensures ∙ ap (λ (w : BucketWork). w.grid) (c.work.ensures ∙ ap (λ (s : SetValue). s.work) c.get-2.ensures)) c.know-2.ensures in
+    let h = subst HasParts c.get.ensures c.know_grid.ensures in
+    let k = subst HasParts (c.get-3.ensures ∙ ap (λ (w : BucketWork). w.grid) (c.work.ensures ∙ ap (λ (s : SetValue). s.work) c.get-2.ensures)) c.know_grid-2.ensures in
     let one = one_grid set.work.grid v.grid k h (c.requires.content ∙ sym (ap (λ (w : VersionState). w.content) c.self.view_is) ∙ sym c.self.invariant.0) in
     (c.self.invariant.0, c.put-answer.ensures.of v.grid c.self.invariant.1 one, c.self.invariant.2)
 
