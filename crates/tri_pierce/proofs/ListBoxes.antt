@@ -1,5 +1,5 @@
 -- The box round triangles of the grid has its corners at points of the grid, and what is beside it is beside what lies in it
-use Rattle.std.proofs.Common.{◌≡◌, ◌⊎◌, inl, inr, ℤ, ◌≤ℤ◌, List, [], ◌∷◌, map, All, subst}
+use Rattle.std.proofs.Common.{◌⊎◌, inl, inr, ℤ, ◌≤ℤ◌, List, [], ◌∷◌, map, All, subst}
 use Rattle.std.specs.Prelude.{Contains}
 use Rattle.std.proofs.lemmas.List.Elements.{All-head, All-tail, All-nil, All-cons}
 use Rattle.exact_arith.proofs.Order.{le_trans}
