@@ -1,5 +1,5 @@
 -- Coordinates as registers of 32 bits give them back
-use Rattle.std.proofs.Common.{◌≤◌, arith, ℤ, ◌≤ℤ◌, IsTrue, sym, subst}
+use Rattle.std.proofs.Common.{◌⊎◌, inl, inr, ◌≤◌, arith, ℤ, ◌≤ℤ◌, IsTrue, sym, subst}
 use Rattle.std.specs.Prelude.{unsigned_abs}
 use Rattle.std.proofs.lemmas.Int.{ints}
 use lib.Signed.{le_z}
@@ -28,3 +28,9 @@ pub before_named : (a b c p q r : ℤ) → Small a → Small b → Small c → S
 before_named a b c p q r ha hb hc hp hq hr k =
     let m = k.between in
     record { between = m; a_in = low_named a m ha k.a_in; b_in = low_named b m hb k.b_in; c_in = low_named c m hc k.c_in; p_in = high_named p m hp k.p_in; q_in = high_named q m hq k.q_in; r_in = high_named r m hr k.r_in }
+
+-- what the test of six coordinates told, by their names
+pub named : (a b c p q r : ℤ) → Small a → Small b → Small c → Small p → Small q → Small r →
+    Before (in_32 a) (in_32 b) (in_32 c) (in_32 p) (in_32 q) (in_32 r) ⊎ Before (in_32 p) (in_32 q) (in_32 r) (in_32 a) (in_32 b) (in_32 c) → Before a b c p q r ⊎ Before p q r a b c
+named a b c p q r ha hb hc hp hq hr (inl k) = inl (before_named a b c p q r ha hb hc hp hq hr k)
+named a b c p q r ha hb hc hp hq hr (inr k) = inr (before_named p q r a b c hp hq hr ha hb hc k)

@@ -8,4 +8,5 @@ pub mod LoneAnswers
 pub mod DecidedSigns
 pub mod Touching
 pub mod Coordinates
+pub mod ListBoxes
 pub mod NearPoints

@@ -2,12 +2,14 @@
 // Lists of triangles, and elements.
 ghost use Rattle.std.specs.Prelude.{◌≡◌, ◌+◌, ◌↔◌, IsTrue, All};
 ghost use Rattle.bim_model.specs.Points.{IsInGrid};
+ghost use Rattle.bim_model.specs.Boxes.{IsExtentOf};
 ghost use Rattle.clearance.specs.Near.{ElementInGrid};
 ghost use Rattle.tri_pierce.specs.Piercing.{PiercesAny, ListsPierce, ElementsPierce};
 ghost use Rattle.tri_pierce.specs.PiercingSigns.{is_piercing_lists, is_piercing};
 
 use crate::piercing::pierces;
-use bim_model::{Element, Steps, Triangle};
+use crate::touching_boxes::is_outside;
+use bim_model::{Element, Extent, Steps, Triangle, extent_of};
 use std::sync::ledger::Ledger;
 
 /// Whether p and a triangle of the list pierce.
@@ -25,6 +27,20 @@ fn pierces_any(p: &Triangle, qs: &[Triangle]) -> bool
     false
 }
 
+/// The same, the box round the list being known.
+#[inline(always)]
+fn row_pierces(p: &Triangle, qs: &[Triangle], around: Extent) -> bool
+    requires p_in { IsInGrid p.now }
+    requires qs_in { All IsInGrid qs.now }
+    requires around_is { IsExtentOf qs.now around }
+    ensures { IsTrue result ↔ PiercesAny p.now qs.now }
+{
+    if is_outside(p, around) {
+        return false;
+    }
+    pierces_any(p, qs)
+}
+
 /// Whether a triangle of one list and a triangle of the other pierce. It takes no memory.
 pub fn lists_pierce(ps: &[Triangle], qs: &[Triangle]) -> bool
     requires ps_in { All IsInGrid ps.now }
@@ -32,8 +48,12 @@ pub fn lists_pierce(ps: &[Triangle], qs: &[Triangle]) -> bool
     ensures pierce { IsTrue result ↔ ListsPierce ps.now qs.now }
     ensures value { result ≡ is_piercing_lists ps.now qs.now }
 {
+    if qs.is_empty() {
+        return false;
+    }
+    let around = extent_of(qs);
     for p in ps {
-        if pierces_any(p, qs) {
+        if row_pierces(p, qs, around) {
             return true;
         }
     }

@@ -1,11 +1,13 @@
-//! Whether the boxes of two triangles share no more than a side.
+//! Whether the boxes of two triangles, or of a triangle and a list, share no more than a side.
 // Triangles whose boxes along the axes at most touch don't pierce.
 ghost use Rattle.std.specs.Prelude.{◌≤◌, ◌≤ℤ◌, ◌⊎◌, unsigned_abs, IsTrue};
-ghost use Rattle.bim_model.specs.Points.{grid_limit, IsInGrid};
+ghost use Rattle.bim_model.specs.Points.{grid_limit, IsInGrid, shape_of};
+ghost use Rattle.bim_model.specs.declared.geometry.Triangle.{Triangle};
+ghost use Rattle.clearance.specs.inner.BoxContainment.{InExtent, IsExtent};
 ghost use Rattle.tri_pierce.specs.Piercing.{Pierces};
 ghost use Rattle.tri_pierce.specs.inner.TouchingBoxes.{Before};
 
-use bim_model::Triangle;
+use bim_model::{Extent, Triangle};
 
 /// The least of three coordinates.
 #[inline(always)]
@@ -94,4 +96,22 @@ pub fn are_beside(p: &Triangle, q: &Triangle) -> bool
         return true;
     }
     is_beside(p.a.z, p.b.z, p.c.z, q.a.z, q.b.z, q.c.z)
+}
+
+/// Whether a triangle is known not to pierce any in a box, since its own shares no more than a side with it; a `false`
+/// says nothing.
+#[inline(always)]
+pub fn is_outside(p: &Triangle, around: Extent) -> bool
+    requires p_in { IsInGrid p.now }
+    requires around_in { IsExtent around }
+    ensures { IsTrue result → (q : Triangle) → InExtent around (shape_of q) → Pierces p.now q → ⊥ }
+{
+    let (low, high) = (around.low, around.high);
+    if is_beside(p.a.x, p.b.x, p.c.x, low.x, high.x, high.x) {
+        return true;
+    }
+    if is_beside(p.a.y, p.b.y, p.c.y, low.y, high.y, high.y) {
+        return true;
+    }
+    is_beside(p.a.z, p.b.z, p.c.z, low.z, high.z, high.z)
 }

@@ -1,15 +1,6 @@
-use Rattle.std.proofs.Common.{◌⊎◌, inl, inr, ℤ}
-use Rattle.clearance.proofs.Words.{in_32}
-use Rattle.tri_pierce.specs.inner.TouchingBoxes.{Before}
-use Rattle.tri_pierce.proofs.Coordinates.{Small, held_32, before_named}
+use Rattle.tri_pierce.proofs.Coordinates.{held_32, named}
 use Rattle.tri_pierce.proofs.Touching.{beside_x, beside_y, beside_z}
 use Rattle.tri_pierce.proofs.touching_boxes.are_beside.Goals as goal
-
--- what the test of six coordinates told, by their names
-named : (a b c p q r : ℤ) → Small a → Small b → Small c → Small p → Small q → Small r →
-    Before (in_32 a) (in_32 b) (in_32 c) (in_32 p) (in_32 q) (in_32 r) ⊎ Before (in_32 p) (in_32 q) (in_32 r) (in_32 a) (in_32 b) (in_32 c) → Before a b c p q r ⊎ Before p q r a b c
-named a b c p q r ha hb hc hp hq hr (inl k) = inl (before_named a b c p q r ha hb hc hp hq hr k)
-named a b c p q r ha hb hc hp hq hr (inr k) = inr (before_named p q r a b c hp hq hr ha hb hc k)
 
 pub is_beside-requires-clause-a_in : goal.is_beside-requires-clause-a_in
 is_beside-requires-clause-a_in c = held_32 c.args.p.now.a.x c.requires.p_in.a_in.x_in
