@@ -1,5 +1,5 @@
 -- What the commands do and answer.
-use Rattle.std.specs.Prelude.{◌≡◌, ◌≢◌, ◌⊎◌, ◌↔◌, ℕ, List, [], ◌∷◌, if◌then◌else◌, Option, Some, None, IsSome, codes}
+use Rattle.std.specs.Prelude.{◌≡◌, ◌≢◌, ◌⊎◌, ℕ, List, [], ◌∷◌, if◌then◌else◌, Option, Some, None, codes}
 use Rattle.std.specs.Str.{bytes_eq}
 use Rattle.bim_io.specs.StreamViews.{ClockSeen, SinkSeen, SinkTakes, Outside, outside}
 use Rattle.bim_io.specs.Writes.{WritesLess}
@@ -126,11 +126,11 @@ asked_by (name ∷ words) =
 abbrev pub SaysUsage : SinkSeen → SinkSeen → ℕ → Type 0
 SaysUsage old new status = ((status ≡ 2) × PrintsUsage old new status) ⊎ ((status ≢ 2) × (new ≡ old))
 
--- what the program does, and how it ends: `serve` leaves the source, the clock and the files alone, and its status is 7
--- exactly with a pass that had made all its turns; the others leave the host alone, and have no book and no such pass
+-- what the program does, and how it ends: `serve` leaves the source, the clock and the files alone, and the others the
+-- host; they have no book
 abbrev pub Ends : Asked → Outside → Outside → FilesSeen → FilesSeen → HostSeen → HostSeen → Ended → Type 0
 Ends (Serve words) before after files files' host host' ended =
     ServesBy (serve_words words) host host' ended × SaysUsage before.sink after.sink ended.status
-    × ReadsNothing before after × (files' ≡ files) × ((ended.status ≡ 7) ↔ IsSome ended.spent)
+    × ReadsNothing before after × (files' ≡ files)
 Ends (Other command) before after files files' host host' ended =
     Runs command before after files files' ended.status × (ended ≡ without_book ended.status) × (host' ≡ host)
