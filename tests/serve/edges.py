@@ -1,0 +1,156 @@
+"""What is at the edges of a server: letters of other alphabets, the clock, workers at work and at
+rest."""
+
+import json
+import os
+import subprocess
+import time
+from datetime import datetime, timezone
+
+from tests.ifc.basics import small_pipes
+from tests.ifc.crowds import placed
+from tests.support.checks import expect
+from tests.support.client import Client, wait_for_clashes
+from tests.support.http import MOMENT, Exchange, coord_of, request, rules, topics_of
+from tests.support.one_thread import compared
+from tests.support.server import Server
+
+MODELS = f"{coord_of()}/models"
+
+
+def umlauts(program: str) -> str:
+    """Letters of two, three and four bytes in titles, comments and users' names stay as they are."""
+    said = "Tür, 木 und 😀"
+    with Server(program) as server:
+        client = Client(server)
+        made = client.ask("POST", topics_of(), json.dumps({"title": said}).encode(), "Jürgen")
+        topic = json.loads(made.reply)
+        expect((topic["title"], topic["creation_author"]) == (said, "Jürgen"), f"{made.reply!r}")
+        body = b'{"comment":"' + said.encode() + b'"}'
+        client.ask("POST", f"{topics_of()}/{topic['guid']}/comments", body, "木")
+        client.ask("GET", f"{topics_of()}/{topic['guid']}/comments")
+        listed = client.ask("GET", topics_of()).reply
+        expect(said.encode() in listed, f"{listed!r}")
+        client.close()
+    return compared(program, 1, [client.log])
+
+
+def seconds_of(date: str) -> float:
+    """A date as seconds since 1970."""
+    return datetime.strptime(date, "%Y-%m-%dT%H:%M:%SZ").replace(tzinfo=timezone.utc).timestamp()
+
+
+def dates(program: str) -> str:
+    """What is made over sockets and what `replay` makes without a moment is dated by the system's
+    clock, to the second."""
+    body = b'{"title":"a"}'
+    while time.time() % 60 < 3:  # so that a date that is cut to minutes is seen
+        time.sleep(0.2)
+    with Server(program) as server, Client(server) as client:
+        began = time.time()
+        made = json.loads(client.ask("POST", topics_of(), body).reply)["creation_date"]
+        ended = time.time()
+    expect(int(began) <= seconds_of(made) <= ended, f"{made} is between {began} and {ended}")
+    began = time.time()
+    words = [program, "replay"]
+    run = subprocess.run(
+        words, input=request("POST", topics_of(), body), stdout=subprocess.PIPE, check=True
+    )
+    ended, said = time.time(), run.stdout.partition(b'"creation_date":"')[2][:20].decode()
+    expect(int(began) <= seconds_of(said) <= ended, f"{said} is between {began} and {ended}")
+    return f"{made} and {said}"
+
+
+def threads_spent(server: Server) -> list[int]:
+    """The nanoseconds of a processor that each thread of the server has taken so far."""
+    spent = []
+    for number in os.listdir(f"/proc/{server.run.pid}/task"):
+        with open(f"/proc/{server.run.pid}/task/{number}/schedstat", encoding="ascii") as file:
+            spent.append(int(file.read().split()[0]))
+    return spent
+
+
+def one_thread_takes(program: str, file: bytes) -> float:
+    """The seconds of a processor that one thread takes for the clashes of a file."""
+    data = request("PUT", f"{coord_of()}/rules", rules(0)) + request("PUT", f"{MODELS}/a", file)
+    took = []
+    for words in ([], ["--buckets", "0"]):
+        before = os.times()
+        command = [program, "replay", "--at", str(MOMENT), *words]
+        subprocess.run(command, input=data, stdout=subprocess.DEVNULL, check=True)
+        after = os.times()
+        took.append(after.children_user - before.children_user)
+    return took[0] - took[1]
+
+
+def workers(program: str, count: int = 8) -> str:
+    """Each of eight workers is at work on a version of 80 crowded buckets, and no bucket is checked
+    by several: they take no more than twice what one thread takes for it."""
+    file = placed(80 * 100, 100, 9000, 10, 100)
+    alone = one_thread_takes(program, file)
+    with Server(program, lanes=1, workers=count) as server, Client(server) as client:
+        client.ask("PUT", f"{coord_of()}/rules", rules(0))
+        client.ask("PUT", f"{MODELS}/a", file)
+        before = sorted(threads_spent(server))
+        wait_for_clashes(client, 2, pause=0.05)
+        spent = threads_spent(server)
+    total = (sum(spent) - sum(before)) / 1e9
+    busy = sum(it > 0.01 * total * 1e9 for it in spent)
+    expect(busy >= count, f"{busy} threads are at work, wanted {count}: {sorted(spent)}")
+    expect(total < 2 * alone + 1, f"{total:.2f} s are taken, {alone:.2f} s by one thread")
+    return f"{busy} threads, {total:.2f} s, {alone:.2f} s by one thread"
+
+
+def turns(program: str, count: int = 1000) -> str:
+    """A worker takes two turns for each of a thousand buckets, and doesn't wait between them; a
+    worker that has nothing to do looks for it soon, and takes hardly any time."""
+    file = placed(2 * count, 100, 9000, 32, 2)
+    alone = one_thread_takes(program, file)
+    with Server(program) as server, Client(server) as client:
+        began, first = time.monotonic(), client.ask("PUT", f"{coord_of()}/rules", rules(0)).turn
+        made = json.loads(client.ask("PUT", f"{MODELS}/a", file).reply)
+        last = wait_for_clashes(client, 2, pause=0.05).turn
+        took = time.monotonic() - began
+        expect(made["left"] == count, f"{made['left']} buckets")
+        used = (last or 0) - (first or 0)
+        expect(used < 2.4 * count + 200 * took, f"{used} turns for {count} buckets")
+        expect(took < 3 * alone + 5, f"{took:.2f} s for {alone:.2f} s of one thread")
+        before = server.spent()
+        began = time.monotonic()
+        for n in range(20):
+            pair = small_pipes(*((10 + 5 * k, f"{k:022}", f"{n}", (n, 0, 0)) for k in range(2)))
+            version = json.loads(client.ask("PUT", f"{MODELS}/b", pair).reply)["version"]
+            wait_for_clashes(client, version)
+        fresh = (time.monotonic() - began) / 20
+        used_then = (server.spent() - before) / 20
+        expect(fresh < used_then + 0.1, f"{fresh:.3f} s until a fresh upload is checked")
+    return (
+        f"{used} turns for {count} buckets in {took:.2f} s, {fresh * 1000:.1f} ms for a fresh one"
+    )
+
+
+def idle(program: str, seconds: float = 1.5) -> str:
+    """Eight workers that have nothing to do take less than a part of one processor."""
+    with Server(program, workers=8) as server:
+        with Client(server) as client:
+            client.ask("GET", topics_of())
+        time.sleep(0.3)
+        before = sum(threads_spent(server))
+        time.sleep(seconds)
+        part = (sum(threads_spent(server)) - before) / 1e9 / seconds
+    expect(part < 0.5, f"{part:.2f} of a processor")
+    return f"{part:.3f} of a processor"
+
+
+def sources(program: str) -> str:
+    """Clients are answered whichever address they come from."""
+    asked = Exchange("GET", topics_of()).bytes_of()
+    with Server(program, host="0.0.0.0") as server:
+        for host in ("127.0.0.1", "127.0.0.2", "127.9.9.9"):
+            it = server.connect(source=host)
+            it.settimeout(20)
+            it.sendall(asked)
+            expect(it.recv(1) == b"H", f"no reply to {host}")
+            it.close()
+        server.stop()
+    return "three addresses"
