@@ -6,11 +6,12 @@ import os
 import subprocess
 import time
 from datetime import datetime, timezone
+from functools import partial
 
 from tests.ifc.basics import small_pipes
 from tests.ifc.crowds import placed
 from tests.support.checks import expect
-from tests.support.client import Client, wait_for_clashes
+from tests.support.client import Client, in_threads, wait_for_clashes
 from tests.support.http import MOMENT, Exchange, coord_of, request, rules, topics_of
 from tests.support.one_thread import compared
 from tests.support.server import Server
@@ -19,7 +20,7 @@ MODELS = f"{coord_of()}/models"
 
 
 def umlauts(program: str) -> str:
-    """Letters of two, three and four bytes in titles, comments and users' names stay as they are."""
+    """Letters of two, three and four bytes in titles, comments and names stay as they are."""
     said = "Tür, 木 und 😀"
     with Server(program) as server:
         client = Client(server)
@@ -37,12 +38,13 @@ def umlauts(program: str) -> str:
 
 def seconds_of(date: str) -> float:
     """A date as seconds since 1970."""
-    return datetime.strptime(date, "%Y-%m-%dT%H:%M:%SZ").replace(tzinfo=timezone.utc).timestamp()
+    read = datetime.strptime(date, "%Y-%m-%dT%H:%M:%SZ")
+    return read.replace(tzinfo=timezone.utc).timestamp()
 
 
 def dates(program: str) -> str:
-    """What is made over sockets and what `replay` makes without a moment is dated by the system's
-    clock, to the second."""
+    """What is made over sockets, and what `replay` makes without a moment, is dated by the
+    system's clock, to the second."""
     body = b'{"title":"a"}'
     while time.time() % 60 < 3:  # so that a date that is cut to minutes is seen
         time.sleep(0.2)
@@ -73,10 +75,9 @@ def threads_spent(server: Server) -> list[int]:
 def one_thread_takes(program: str, file: bytes) -> float:
     """The seconds of a processor that one thread takes for the clashes of a file."""
     data = request("PUT", f"{coord_of()}/rules", rules(0)) + request("PUT", f"{MODELS}/a", file)
-    took = []
-    for words in ([], ["--buckets", "0"]):
+    took, command = [], [program, "replay", "--at", str(MOMENT)]
+    for command in (command, [*command, "--buckets", "0"]):
         before = os.times()
-        command = [program, "replay", "--at", str(MOMENT), *words]
         subprocess.run(command, input=data, stdout=subprocess.DEVNULL, check=True)
         after = os.times()
         took.append(after.children_user - before.children_user)
@@ -140,6 +141,56 @@ def idle(program: str, seconds: float = 1.5) -> str:
         part = (sum(threads_spent(server)) - before) / 1e9 / seconds
     expect(part < 0.5, f"{part:.2f} of a processor")
     return f"{part:.3f} of a processor"
+
+
+def pages(program: str, count: int = 500, times: int = 20) -> str:
+    """A version's clashes are listed once: the first page takes the time for it, and those that
+    other connections ask for afterwards take a small part of that."""
+    pairs = count * (count - 1) // 2
+    with Server(program, lanes=2) as server:
+        with Client(server) as client:
+            client.ask("PUT", f"{coord_of()}/rules", rules(0))
+            client.ask("PUT", f"{MODELS}/a", placed(count, 100, 0))
+            while json.loads(client.ask("GET", f"{coord_of()}/versions/2").reply)["left"]:
+                time.sleep(0.02)
+        spent = []
+        for _ in range(1 + times):
+            before = sum(threads_spent(server))
+            with Client(server) as client:
+                page = f"{coord_of()}/versions/2/clashes?first={pairs - 1}&count=1"
+                it = client.ask("GET", page)
+            found = json.loads(it.reply)
+            expect((it.status, found["total"]) == (200, pairs), f"{it.status} {it.reply[:80]!r}")
+            spent.append((sum(threads_spent(server)) - before) / 1e6)
+    later = sorted(spent[1:])[times // 2]
+    expect(
+        later < spent[0] / 3, f"{spent[0]:.2f} ms for the first page, {later:.2f} for later ones"
+    )
+    return f"{spent[0]:.2f} ms for the first page of {pairs} pairs, {later:.2f} for later ones"
+
+
+def ask_for_a_while(server: Server, seconds: float, counts: list[int]) -> None:
+    """Asks for the projects for so many seconds, and notes how often."""
+    count, end = 0, time.monotonic() + seconds
+    with Client(server) as client:
+        while time.monotonic() < end:
+            client.socket.sendall(Exchange("GET", "/bcf/3.0/projects").bytes_of() * 50)
+            for _ in range(50):
+                client.read()
+            count += 50
+    counts.append(count)
+
+
+def crowds(program: str, clients: int = 16, seconds: float = 0.7) -> str:
+    """Sixteen connections that ask at once are answered about as often as one alone: those that
+    wait for their turn sleep."""
+    with Server(program, lanes=clients) as server:
+        alone: list[int] = []
+        ask_for_a_while(server, seconds, alone)
+        each: list[int] = []
+        in_threads([partial(ask_for_a_while, server, seconds, each) for _ in range(clients)])
+    expect(sum(each) > alone[0] / 4, f"{sum(each)} replies for {clients}, {alone[0]} for one alone")
+    return f"{sum(each)} replies for {clients}, {alone[0]} for one alone"
 
 
 def sources(program: str) -> str:

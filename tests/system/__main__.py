@@ -16,11 +16,20 @@ from functools import partial
 
 from tests.support.checks import arguments, chosen, run_rows
 from tests.support.programs import built
-from tests.system.commands import blocks, many_files, words
+from tests.system.commands import blocks, first_refusal, many_files, words
 from tests.system.sockets import address, options, pieces, silence
 from tests.system.watch import Watch
 
-ALL: list[Callable[[Watch], str]] = [address, options, silence, pieces, blocks, many_files, words]
+ALL: list[Callable[[Watch], str]] = [
+    address,
+    options,
+    silence,
+    pieces,
+    blocks,
+    many_files,
+    first_refusal,
+    words,
+]
 ROWS = {row.__name__: row for row in ALL}
 
 

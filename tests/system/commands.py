@@ -60,6 +60,17 @@ def many_files(watch: Watch) -> str:
     return "2, 9 and 64 files"
 
 
+def first_refusal(watch: Watch) -> str:
+    """`check` judges the files in the order of the words: a bad one before a file that isn't there
+    is refused, status 3, and a file that isn't there before a bad one is a failure, status 4."""
+    bad, given, none = watch.file(b"no file"), watch.file(rules(0)), f"{watch.folder}/none"
+    for files, wanted in (((bad, none), (3, b"a: U1 NotPart21\n")), ((none, bad), (4, b""))):
+        words = ["check", "--rules", given, f"a={files[0]}", f"b={files[1]}"]
+        run = watch.run(words)
+        expect((run.status, run.output) == wanted, f"{files}: {run.status} {run.output!r}")
+    return "bad before missing, missing before bad"
+
+
 def words(watch: Watch) -> str:
     """Words that are no UTF-8 are outside the grammar, as are those with a blank too many, and the
     name of a file may have blanks at its ends."""

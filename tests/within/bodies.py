@@ -1,6 +1,8 @@
 """The longest bodies, texts, rules and words, and as many lanes and workers as there may be."""
 
 import json
+import subprocess
+import tempfile
 from functools import partial
 
 from tests.ifc.basics import file_of, pipe, shape, small_pipes, triangle
@@ -116,4 +118,26 @@ def pipelined(program: str) -> str:
     return "4 uploads of 8,000,000 bytes"
 
 
-BODIES = [longest, most_rules, all_lanes, many_connections, pipelined]
+def commands(program: str) -> str:
+    """`check` of a file of 33,554,432 bytes, and `generate` of 10,000 elements, as a file and as
+    numbers."""
+    with tempfile.TemporaryDirectory() as folder:
+        with open(f"{folder}/r", "wb") as file:
+            file.write(rules(0))
+        with open(f"{folder}/m", "wb") as file:
+            file.write(padded(file_of(triangle(), shape(), pipe(8, "p" * 22)), MOST_BYTES))
+        kinds = {
+            "check --rules r m=m": b"clashes 0\n",
+            "generate --count 10000": b"elements 10000\ntriangles 120000\nclashes ",
+            "generate --count 10000 --file": b"ISO-10303-21;\n",
+        }
+        for words, start in kinds.items():
+            run = subprocess.run(
+                [program, *words.split()], cwd=folder, stdout=subprocess.PIPE, check=False
+            )
+            said = run.stdout[: len(start)]
+            expect((run.returncode, said) == (0, start), f"{words}: {run.returncode} {said!r}")
+    return "check and generate"
+
+
+BODIES = [commands, longest, most_rules, all_lanes, many_connections, pipelined]
