@@ -17,6 +17,7 @@ from functools import partial
 from tests.support.checks import arguments, chosen, run_rows
 from tests.support.programs import built
 from tests.system.commands import blocks, first_refusal, many_files, words
+from tests.system.memory import MEMORY
 from tests.system.sockets import address, options, pieces, silence
 from tests.system.watch import Watch
 
@@ -29,6 +30,7 @@ ALL: list[Callable[[Watch], str]] = [
     many_files,
     first_refusal,
     words,
+    *MEMORY,
 ]
 ROWS = {row.__name__: row for row in ALL}
 

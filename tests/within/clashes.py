@@ -1,8 +1,12 @@
 """Versions with many members of a bucket, pairs, buckets and memberships."""
 
+import subprocess
+import tempfile
+
 from tests.ifc.basics import small_pipes
 from tests.ifc.crowds import placed
 from tests.support.checks import expect
+from tests.support.http import rules
 from tests.within.asking import COORD, Asking
 
 
@@ -53,4 +57,19 @@ def memberships(program: str) -> str:
     return "60,000 wide ones, 100,000 small ones"
 
 
-CLASHES = [crowded, carried, memberships]
+def version_full(program: str) -> str:
+    """`check` takes 100,000 elements, and refuses one more."""
+    with tempfile.TemporaryDirectory() as folder:
+        files = {"r": rules(0), "a": placed(100_000, 100, 15000), "b": placed(1, 100, 0)}
+        for name, data in files.items():
+            with open(f"{folder}/{name}", "wb") as file:
+                file.write(data)
+        refused = b"version: K7 ElementsFull 100001 100000\n", 3
+        for words, wanted in (("a=a", (b"clashes 0\n", 0)), ("a=a b=b", refused)):
+            command = [program, *f"check --rules r {words}".split()]
+            run = subprocess.run(command, cwd=folder, stdout=subprocess.PIPE, check=False)
+            expect((run.stdout, run.returncode) == wanted, f"{words}: {run.stdout!r}")
+    return "100,000 elements and one more"
+
+
+CLASHES = [crowded, carried, memberships, version_full]
