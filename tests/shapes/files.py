@@ -172,13 +172,11 @@ FILES = [
         "lists in lists, 32 deep",
         9,
         lambda: upload(file_of(*(f"#{n}=A({'(' * 31}{')' * 31});\n" for n in range(10, 30_000)))),
-        REFUSED,
     ),
     Shape(
         "200,000 instances, their numbers falling",
         9,
         lambda: upload(file_of(*(f"#{300_000 - n}=A();\n" for n in range(200_000)))),
-        REFUSED,
     ),
 ]
 
@@ -226,7 +224,10 @@ REQUESTS = [
         ),
     ),
     Shape(
-        "a number of 400,000 digits", 9, lambda: topic(b'{"title":"a","x":' + b"1" * 400_000 + b"}")
+        "a number of 400,000 digits",
+        9,
+        lambda: topic(b'{"title":"a","x":' + b"1" * 400_000 + b"}"),
+        b"HTTP/1.1 400 ",
     ),
     Shape("heads of 16,384 bytes", 9, lambda: head_of(16_384) * 50, b"HTTP/1.1 200 "),
     Shape("elements in too many cells", 99, lambda: upload(placed(2_000, 150_000, 10)), FULL),
