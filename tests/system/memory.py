@@ -13,7 +13,7 @@ from tests.ifc.solids import boxes, boxes_at
 from tests.shapes.files import clashes, many_rows, upload
 from tests.support.checks import expect
 from tests.support.client import Client
-from tests.support.http import MOMENT, coord_of
+from tests.support.http import MOMENT, coord_of, rules
 from tests.system.watch import Counts, Watch, WatchedServer
 from tests.within.files import padded
 
@@ -57,30 +57,30 @@ def fields(count: int) -> bytes:
 
 
 SESSIONS = [
-    Session("no request", lambda: b"", 0.2),
-    Session("200 requests of 60 fields", lambda: fields(60) * 200, 0.5),
-    Session("600 heads of 16,384 bytes", lambda: head_of(16_384) * 600, 0.5),
-    Session("a length of 32 MiB, and a hundred bytes", lambda: LIE + b"x" * 100, 0.5),
-    Session("a body of 8 MB that is no file", lambda: upload(bytes(8 * MB)), 12),
-    Session("three of them", lambda: upload(bytes(8 * MB)) * 3, 12),
-    Session("8 MB in chunks of 10,000 bytes", lambda: chunked(10_000, 800), 20),
-    Session("8 MB in chunks of 10 bytes", lambda: chunked(10, 100_000), 12),
+    Session("no request", lambda: b"", 0.05),
+    Session("200 requests of 60 fields", lambda: fields(60) * 200, 0.1),
+    Session("600 heads of 16,384 bytes", lambda: head_of(16_384) * 600, 0.1),
+    Session("a length of 32 MiB, and 20,000 bytes", lambda: LIE + b"x" * 20_000, 0.2),
+    Session("a body of 8 MB that is no file", lambda: upload(bytes(8 * MB)), 10),
+    Session("three of them", lambda: upload(bytes(8 * MB)) * 3, 18),
+    Session("8 MB in chunks of 10,000 bytes", lambda: chunked(10_000, 800), 10),
+    Session("8 MB in chunks of 10 bytes", lambda: chunked(10, 100_000), 1.5),
     Session(
         "a file of 8 MB, nearly all of it a comment",
         lambda: upload(padded(small_file(), 8 * MB)),
-        12,
+        17,
     ),
-    Session("boxes", lambda: upload(boxes(4000)), 12),
-    Session("200,000 instances", lambda: upload(with_instances(200_000)), 12),
-    Session("a set of 300,000 triangles", lambda: upload(many_rows(300_000)), 30),
-    Session("300 pipes of 1,000 shared pieces", lambda: upload(shared_pieces(300, 1000)), 20),
+    Session("boxes", lambda: upload(boxes(4000)), 7.6),
+    Session("200,000 instances", lambda: upload(with_instances(200_000)), 20),
+    Session("a set of 300,000 triangles", lambda: upload(many_rows(300_000)), 19),
+    Session("300 pipes of 1,000 shared pieces", lambda: upload(shared_pieces(300, 1000)), 13),
     Session(
         "2,000 walls in a storey with a name of 100,000 bytes",
         lambda: upload(shared_storey(2000, 100_000)),
-        2,
+        1.2,
     ),
-    Session("elements in too many cells", lambda: upload(placed(2000, 150_000, 10)), 4),
-    Session("10,000 buckets", lambda: clashes(placed(1200, 8000, 15000, 40, 2)), 12),
+    Session("elements in too many cells", lambda: upload(placed(2000, 150_000, 10)), 2),
+    Session("10,000 buckets", lambda: clashes(placed(1200, 8000, 15000, 40, 2)), 8),
 ]
 
 
@@ -96,49 +96,49 @@ def sessions(watch: Watch) -> str:
     return ", ".join(said) + " MB"
 
 
-def asked_by(watch: Watch, data: bytes) -> Counts:
+def no_rules() -> bytes:
+    """The body of no rules, by which nothing clashes."""
+    return b'{"rules":[]}'
+
+
+def asked_by(watch: Watch, data: bytes, *words: str) -> Counts:
     """What a session asks for."""
-    return watch.run(["replay", "--at", str(MOMENT)], data).counts
+    return watch.run(["replay", "--at", str(MOMENT), *words], data).counts
 
 
 def requests(watch: Watch) -> str:
-    """A small request asks for little memory, and in few pieces; and so does a bucket without a
-    clash."""
+    """A small request asks for little memory, and so does a bucket without a clash."""
     one, many = (asked_by(watch, fields(6) * n) for n in (1, 201))
-    each = (many.asked - one.asked) / 200, (many.allocations - one.allocations) / 200
-    expect(each[0] < 40_000, f"a request asks for {each[0]:.0f} bytes")
-    apart = boxes_at(
-        [(n * 1300 % 400_000, n * 1300 // 400_000 * 2000, 0) for n in range(2000)], 100
-    )
-    with_work, without = asked_by(watch, clashes(apart)), asked_by(watch, upload(apart))
-    buckets = (with_work.allocations - without.allocations) / 2000
-    expect(buckets < 12, f"{buckets:.1f} allocations for a bucket")
-    return f"{each[0]:.0f} bytes in {each[1]:.1f} pieces for a request, {buckets:.1f} for a bucket"
+    each = (many.asked - one.asked) / 200
+    expect(each < 40_000, f"a request asks for {each:.0f} bytes")
+    data, count = clashes(placed(1000, 100, 9000, 32, 2), no_rules()), 500
+    work, without = asked_by(watch, data), asked_by(watch, data, "--buckets", "0")
+    buckets = (work.allocations - without.allocations) / count
+    expect(0 < buckets < 12, f"{buckets:.1f} allocations for a bucket")
+    return f"{each:.0f} bytes for a request, {buckets:.1f} pieces for a bucket"
 
 
-def uploads(watch: Watch) -> str:
+def server(watch: Watch) -> str:
     """A server that is idle holds little; versions that are dropped are let go, and so is what a
     long upload took, while its connection stays."""
-    with WatchedServer(watch, lanes=2) as server, Client(server) as client:
+    with WatchedServer(watch) as it, Client(it) as client:
         client.ask("GET", "/bcf/3.0/projects")
-        start = server.notes.counts()
+        start = it.notes.counts()
         expect(start.most < 3 * MB, f"an idle server holds {start.most / MB:.1f} MB")
         client.ask("PUT", f"{coord_of()}/models/b", bytes(20 * MB))
         client.ask("GET", "/bcf/3.0/projects")
-        held = server.notes.counts().held - start.held
+        held = it.notes.counts().held - start.held
         expect(held < MB, f"{held / MB:.1f} MB are held after an upload that was refused")
+        client.ask("PUT", f"{coord_of()}/models/a", placed(3000, 100, 9000))
         sizes = []
         for n in range(60):
-            file = small_pipes(
-                *((10 + 5 * k, f"{k:022}", f"{n}", (k * 300, 0, n)) for k in range(300))
-            )
-            client.ask("PUT", f"{coord_of()}/models/a", file)
-            sizes.append(server.notes.counts().held)
-        server.stop()
-    grown = (sizes[59] - sizes[39]) / (sizes[19] - sizes[0])
-    expect(grown < 0.5, f"the last 20 versions took {grown:.2f} of what the first 20 did")
+            client.ask("PUT", f"{coord_of()}/rules", rules(n))
+            sizes.append(it.notes.counts().held)
+        it.stop()
+    first, last = sizes[15] - sizes[0], sizes[59] - sizes[19]
+    expect(last < first / 4, f"15 versions took {first} bytes, 40 more took {last}")
     idle = f"{start.most / MB:.2f} MB when idle"
-    return f"{idle}, the last 20 of 60 versions took {grown:.2f} of the first 20"
+    return f"{idle}, {first} bytes for 15 versions, {last} for 40 more"
 
 
-MEMORY = [sessions, requests, uploads]
+MEMORY = [sessions, requests, server]

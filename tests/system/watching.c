@@ -60,18 +60,26 @@ void free(void *p) {
     real(p);
 }
 
-static ssize_t counted(int calls, int bytes, ssize_t n) {
-    add(calls, 1);
+static ssize_t counted(int bytes, ssize_t n) {
     if (n > 0) add(bytes, n);
     return n;
 }
 
-ssize_t read(int fd, void *to, size_t n) { REAL(read); return counted(READS, READ_BYTES, real(fd, to, n)); }
-ssize_t recv(int fd, void *to, size_t n, int how) { REAL(recv); return counted(READS, READ_BYTES, real(fd, to, n, how)); }
-ssize_t write(int fd, const void *from, size_t n) { REAL(write); return counted(WRITES, WRITTEN_BYTES, real(fd, from, n)); }
+ssize_t read(int fd, void *to, size_t n) { REAL(read); add(READS, 1); return counted(READ_BYTES, real(fd, to, n)); }
+ssize_t recv(int fd, void *to, size_t n, int how) {
+    REAL(recv);
+    add(READS, 1);
+    return counted(READ_BYTES, real(fd, to, n, how));
+}
+ssize_t write(int fd, const void *from, size_t n) {
+    REAL(write);
+    add(WRITES, 1);
+    return counted(WRITTEN_BYTES, real(fd, from, n));
+}
 ssize_t send(int fd, const void *from, size_t n, int how) {
     REAL(send);
-    return counted(WRITES, WRITTEN_BYTES, real(fd, from, n, how));
+    add(WRITES, 1);
+    return counted(WRITTEN_BYTES, real(fd, from, n, how));
 }
 
 static void tell(const char *text, int size) { if (lines >= 0) syscall(SYS_write, lines, text, size); }

@@ -42,9 +42,9 @@ class Asking:
         expect(it.status == status, f"{method} {target}: {it.status} {it.reply[:200]!r}")
         return json.loads(it.reply)
 
-    def upload(self, file: bytes, elements: int, grid: str = "exact", status: int = 201) -> Any:
+    def upload(self, file: bytes, elements: int, grid: str = "exact") -> Any:
         """Puts the file as a model, of which so many elements are made."""
-        made = self.ask("PUT", f"{MODEL}?grid={grid}", file, status)
+        made = self.ask("PUT", f"{MODEL}?grid={grid}", file, 201)
         expect(made["elements"] == elements, f"{made['elements']} elements, wanted {elements}")
         return made
 

@@ -34,7 +34,7 @@ def own_shapes(program: str) -> str:
     file = apart(MANY)
     with Asking(program) as it:
         it.upload(file, MANY)
-        it.upload(file, MANY, "snap", 200)
+        it.upload(file, MANY, "snap")
         it.listed(2, MANY)
     return f"{len(file) / 1e6:.1f} MB"
 
@@ -43,7 +43,7 @@ def placements(program: str) -> str:
     """70,000 pipes with a placement of their own, and one at the end of a chain of 150,000."""
     with Asking(program) as it:
         it.upload(placed(MANY, 100, 300, 300), MANY)
-        it.upload(chain(150_000, 1), 1, status=200)
+        it.upload(chain(150_000, 1), 1)
     return f"{MANY} placements, a chain of 150,000"
 
 
@@ -52,7 +52,7 @@ def storeys(program: str) -> str:
     million."""
     with Asking(program) as it:
         it.upload(shared_storey(MANY, 5000), MANY)
-        it.upload(long_name(20, 1_000_000), 20, status=200)
+        it.upload(long_name(20, 1_000_000), 20)
         it.listed(2, 20)
     return "names of 5,000 and 1,000,000 bytes"
 
@@ -64,9 +64,7 @@ def pieces(program: str) -> str:
     corners = points(4, [(n % 1000, n // 1000, n % 7) for n in range(100_000)])
     with Asking(program) as it:
         it.upload(mapped(300_000), 1)
-        it.upload(
-            file_of(corners, triangles(5, 4, faces), shape(), pipe(8, "p" * 22)), 1, status=200
-        )
+        it.upload(file_of(corners, triangles(5, 4, faces), shape(), pipe(8, "p" * 22)), 1)
     return "300,000 pieces, 1,000,000 triangles"
 
 
@@ -103,11 +101,9 @@ def greatest(program: str) -> str:
     }
     expect(len(files["bytes"]) == MOST_BYTES, f"{len(files['bytes'])} bytes")
     with Asking(program) as it:
-        status = 201
         for file in files.values():
             for grid in GRIDS:
-                it.upload(file, 1, grid, status)
-                status = 200
+                it.upload(file, 1, grid)
         bad = with_instances(400_000).replace(b"(1,2,3)", b"(1,2,4)")
         refused = it.ask("PUT", MODEL, bad, 422)
         expect(refused["code"] == "U14", f"{refused}")
