@@ -63,13 +63,18 @@ def dates(program: str) -> str:
     return f"{made} and {said}"
 
 
-def threads_spent(server: Server) -> list[int]:
+def by_thread(server: Server) -> dict[str, int]:
     """The nanoseconds of a processor that each thread of the server has taken so far."""
-    spent = []
+    spent = {}
     for number in os.listdir(f"/proc/{server.run.pid}/task"):
         with open(f"/proc/{server.run.pid}/task/{number}/schedstat", encoding="ascii") as file:
-            spent.append(int(file.read().split()[0]))
+            spent[number] = int(file.read().split()[0])
     return spent
+
+
+def taken(server: Server) -> int:
+    """The nanoseconds of a processor that the server has taken so far."""
+    return sum(by_thread(server).values())
 
 
 def one_thread_takes(program: str, file: bytes) -> float:
@@ -84,35 +89,42 @@ def one_thread_takes(program: str, file: bytes) -> float:
     return took[0] - took[1]
 
 
-def workers(program: str, count: int = 8) -> str:
-    """Each of eight workers is at work on a version of 80 crowded buckets, and no bucket is checked
-    by several: they take no more than twice what one thread takes for it."""
-    file = placed(80 * 100, 100, 9000, 10, 100)
-    alone = one_thread_takes(program, file)
+def work_taken(program: str, file: bytes, count: int) -> list[int]:
+    """The nanoseconds that each thread of a server with so many workers takes for the clashes of a
+    file."""
     with Server(program, lanes=1, workers=count) as server, Client(server) as client:
         client.ask("PUT", f"{coord_of()}/rules", rules(0))
+        before = by_thread(server)
         client.ask("PUT", f"{MODELS}/a", file)
-        before = sorted(threads_spent(server))
         wait_for_clashes(client, 2, pause=0.05)
-        spent = threads_spent(server)
-    total = (sum(spent) - sum(before)) / 1e9
-    busy = sum(it > 0.01 * total * 1e9 for it in spent)
+        spent = by_thread(server)
+    return [it - before.get(number, 0) for number, it in spent.items()]
+
+
+def workers(program: str, count: int = 8) -> str:
+    """Each of eight workers is at work on a version of crowded buckets, and none is checked by
+    several: they take no more than twice what one worker takes for it."""
+    file = placed(16 * 400, 100, 9000, 4, 400)
+    alone, spent = sum(work_taken(program, file, 1)) / 1e9, work_taken(program, file, count)
+    total = sum(spent) / 1e9
+    busy = sum(it > 0.01 * sum(spent) for it in spent)
     expect(busy >= count, f"{busy} threads are at work, wanted {count}: {sorted(spent)}")
-    expect(total < 2 * alone + 1, f"{total:.2f} s are taken, {alone:.2f} s by one thread")
-    return f"{busy} threads, {total:.2f} s, {alone:.2f} s by one thread"
+    expect(total < 2 * alone + 0.2, f"{total:.2f} s are taken, {alone:.2f} s by one worker")
+    return f"{busy} threads, {total:.2f} s, {alone:.2f} s by one worker"
 
 
-def turns(program: str, count: int = 1000) -> str:
-    """A worker takes two turns for each of a thousand buckets, and doesn't wait between them; a
-    worker that has nothing to do looks for it soon, and takes hardly any time."""
-    file = placed(2 * count, 100, 9000, 32, 2)
+def turns(program: str) -> str:
+    """A worker takes two turns for each of some thousand buckets, and doesn't wait between them;
+    one that has nothing to do looks for it soon."""
+    file = placed(2000, 100, 9000, 32, 2)
     alone = one_thread_takes(program, file)
     with Server(program) as server, Client(server) as client:
         began, first = time.monotonic(), client.ask("PUT", f"{coord_of()}/rules", rules(0)).turn
         made = json.loads(client.ask("PUT", f"{MODELS}/a", file).reply)
         last = wait_for_clashes(client, 2, pause=0.05).turn
         took = time.monotonic() - began
-        expect(made["left"] == count, f"{made['left']} buckets")
+        count = made["left"]
+        expect(count > 1000, f"{count} buckets")
         used = (last or 0) - (first or 0)
         expect(used < 2.4 * count + 200 * took, f"{used} turns for {count} buckets")
         expect(took < 3 * alone + 5, f"{took:.2f} s for {alone:.2f} s of one thread")
@@ -136,14 +148,23 @@ def idle(program: str, seconds: float = 1.5) -> str:
         with Client(server) as client:
             client.ask("GET", topics_of())
         time.sleep(0.3)
-        before = sum(threads_spent(server))
+        before = taken(server)
         time.sleep(seconds)
-        part = (sum(threads_spent(server)) - before) / 1e9 / seconds
-    expect(part < 0.5, f"{part:.2f} of a processor")
+        part = (taken(server) - before) / 1e9 / seconds
+    expect(part < 0.15, f"{part:.2f} of a processor")
     return f"{part:.3f} of a processor"
 
 
-def pages(program: str, count: int = 500, times: int = 20) -> str:
+def rest(server: Server, patience: float = 120) -> None:
+    """Waits until the server has nothing to do."""
+    end, before, now = time.monotonic() + patience, 0, taken(server)
+    while now - before > 3_000_000:
+        expect(time.monotonic() < end, "the server doesn't come to rest")
+        time.sleep(0.2)
+        before, now = now, taken(server)
+
+
+def pages(program: str, count: int = 900, times: int = 20) -> str:
     """A version's clashes are listed once: the first page takes the time for it, and those that
     other connections ask for afterwards take a small part of that."""
     pairs = count * (count - 1) // 2
@@ -151,20 +172,19 @@ def pages(program: str, count: int = 500, times: int = 20) -> str:
         with Client(server) as client:
             client.ask("PUT", f"{coord_of()}/rules", rules(0))
             client.ask("PUT", f"{MODELS}/a", placed(count, 100, 0))
-            while json.loads(client.ask("GET", f"{coord_of()}/versions/2").reply)["left"]:
-                time.sleep(0.02)
+            rest(server)
         spent = []
         for _ in range(1 + times):
-            before = sum(threads_spent(server))
+            before = taken(server)
             with Client(server) as client:
                 page = f"{coord_of()}/versions/2/clashes?first={pairs - 1}&count=1"
                 it = client.ask("GET", page)
             found = json.loads(it.reply)
             expect((it.status, found["total"]) == (200, pairs), f"{it.status} {it.reply[:80]!r}")
-            spent.append((sum(threads_spent(server)) - before) / 1e6)
+            spent.append((taken(server) - before) / 1e6)
     later = sorted(spent[1:])[times // 2]
     expect(
-        later < spent[0] / 3, f"{spent[0]:.2f} ms for the first page, {later:.2f} for later ones"
+        later < spent[0] / 50, f"{spent[0]:.2f} ms for the first page, {later:.2f} for later ones"
     )
     return f"{spent[0]:.2f} ms for the first page of {pairs} pairs, {later:.2f} for later ones"
 
@@ -172,25 +192,28 @@ def pages(program: str, count: int = 500, times: int = 20) -> str:
 def ask_for_a_while(server: Server, seconds: float, counts: list[int]) -> None:
     """Asks for the projects for so many seconds, and notes how often."""
     count, end = 0, time.monotonic() + seconds
-    with Client(server) as client:
-        while time.monotonic() < end:
-            client.socket.sendall(Exchange("GET", "/bcf/3.0/projects").bytes_of() * 50)
-            for _ in range(50):
-                client.read()
-            count += 50
+    while time.monotonic() < end:
+        with Client(server) as client:
+            for _ in range(100):  # of the 10,000 requests that a connection may have
+                if time.monotonic() < end:
+                    client.socket.sendall(Exchange("GET", "/bcf/3.0/projects").bytes_of() * 50)
+                    count += len([client.read() for _ in range(50)])
     counts.append(count)
 
 
 def crowds(program: str, clients: int = 16, seconds: float = 0.7) -> str:
-    """Sixteen connections that ask at once are answered about as often as one alone: those that
-    wait for their turn sleep."""
+    """A reply takes no more of a processor where sixteen connections ask at once than where one
+    does: those that wait for their turn sleep."""
+    each = []
     with Server(program, lanes=clients) as server:
-        alone: list[int] = []
-        ask_for_a_while(server, seconds, alone)
-        each: list[int] = []
-        in_threads([partial(ask_for_a_while, server, seconds, each) for _ in range(clients)])
-    expect(sum(each) > alone[0] / 4, f"{sum(each)} replies for {clients}, {alone[0]} for one alone")
-    return f"{sum(each)} replies for {clients}, {alone[0]} for one alone"
+        server.connect().close()
+        for count in (1, clients):
+            before, counts = taken(server), list[int]()
+            in_threads([partial(ask_for_a_while, server, seconds, counts)] * count)
+            each.append((taken(server) - before) / sum(counts) / 1000)
+    said = f"{each[1]:.0f} microseconds for a reply to {clients}, {each[0]:.0f} to one"
+    expect(each[1] < 3 * each[0] + 20, said)
+    return said
 
 
 def sources(program: str) -> str:

@@ -123,9 +123,9 @@ FILES = [
     Shape("60,000 walls that share a shape", 9, lambda: upload(walls(60_000))),
     Shape("20,000 walls whose identifiers share a slot", 9, lambda: upload(one_slot(20_000))),
     Shape(
-        "20,000 walls in a storey whose name has 100,000 bytes",
+        "5,000 walls in a storey whose name has 100,000 bytes",
         9,
-        lambda: upload(shared_storey(20_000, 100_000)),
+        lambda: upload(shared_storey(5_000, 100_000)),
     ),
     Shape(
         "2,000 walls that share a shape of 2,000 representations, refused",
