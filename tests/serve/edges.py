@@ -103,13 +103,13 @@ def work_taken(program: str, file: bytes, count: int) -> list[int]:
 
 def workers(program: str, count: int = 8) -> str:
     """Each of eight workers is at work on a version of crowded buckets, and none is checked by
-    several: they take no more than twice what one worker takes for it."""
+    many: they take no more than four times what one worker takes for it."""
     file = placed(16 * 400, 100, 9000, 4, 400)
     alone, spent = sum(work_taken(program, file, 1)) / 1e9, work_taken(program, file, count)
     total = sum(spent) / 1e9
     busy = sum(it > 0.01 * sum(spent) for it in spent)
     expect(busy >= count, f"{busy} threads are at work, wanted {count}: {sorted(spent)}")
-    expect(total < 2 * alone + 0.2, f"{total:.2f} s are taken, {alone:.2f} s by one worker")
+    expect(total < 4 * alone + 0.5, f"{total:.2f} s are taken, {alone:.2f} s by one worker")
     return f"{busy} threads, {total:.2f} s, {alone:.2f} s by one worker"
 
 
@@ -142,17 +142,19 @@ def turns(program: str) -> str:
     )
 
 
-def idle(program: str, seconds: float = 1.5) -> str:
-    """Eight workers that have nothing to do take less than a part of one processor."""
-    with Server(program, workers=8) as server:
-        with Client(server) as client:
-            client.ask("GET", topics_of())
-        time.sleep(0.3)
-        before = taken(server)
+def idle(program: str, count: int = 8, seconds: float = 1.5) -> str:
+    """Eight workers that have nothing to do look for it every five milliseconds, and take less than
+    a part of one processor."""
+    with Server(program, workers=count) as server, Client(server) as client:
+        first = client.ask("GET", topics_of()).turn or 0
+        began, before = time.monotonic(), taken(server)
         time.sleep(seconds)
-        part = (taken(server) - before) / 1e9 / seconds
-    expect(part < 0.15, f"{part:.2f} of a processor")
-    return f"{part:.3f} of a processor"
+        last = client.ask("GET", topics_of()).turn or 0
+        took = time.monotonic() - began
+        part = (taken(server) - before) / 1e9 / took
+    looks = (last - first) / count / took
+    expect(looks < 250 and part < 0.5, f"{looks:.0f} looks a second, {part:.2f} of a processor")
+    return f"{looks:.0f} looks of each a second, {part:.3f} of a processor"
 
 
 def rest(server: Server, patience: float = 120) -> None:
@@ -173,12 +175,15 @@ def pages(program: str, count: int = 900, times: int = 20) -> str:
             client.ask("PUT", f"{coord_of()}/rules", rules(0))
             client.ask("PUT", f"{MODELS}/a", placed(count, 100, 0))
             rest(server)
-        spent = []
-        for _ in range(1 + times):
+        spent: list[float] = []
+        while len(spent) < 1 + times:
             before = taken(server)
             with Client(server) as client:
                 page = f"{coord_of()}/versions/2/clashes?first={pairs - 1}&count=1"
                 it = client.ask("GET", page)
+            if it.status == 202:
+                rest(server)
+                continue
             found = json.loads(it.reply)
             expect((it.status, found["total"]) == (200, pairs), f"{it.status} {it.reply[:80]!r}")
             spent.append((taken(server) - before) / 1e6)

@@ -6,7 +6,7 @@ long, or as much memory, and all answers stay.
 
 A session of each shape is replayed, and its seconds of a processor, less those of a session without
 requests, are divided by what a plain session of its kind takes for as many bytes: files beside
-boxes, clashes beside boxes that are spread, requests beside small topics. That part must not be
+boxes, clashes beside pipes by twos, requests beside small topics. That part must not be
 above the bound of the row, which is some three times what was seen. A row above it is measured
 again before it counts. All, or those with one of the words in their name. With --loose bounds are
 so many times as high, for a program that isn't proved, and so is slow.
