@@ -135,7 +135,7 @@ def ramps(count: int) -> bytes:
 
 
 def again(count: int) -> bytes:
-    """A version of long pipes by twos, and seven more versions, each by a small model at the side."""
+    """A version of long pipes by twos, and seven more, each by a small model at the side."""
     small = boxes_at([(790_000, 0, 0)])
     more = (request("PUT", f"{coord_of()}/models/n{n}", small) for n in range(7))
     return clashes(placed(count, 8000, 15000, 40, 2)) + b"".join(more)
@@ -149,6 +149,7 @@ FILES = [
     Shape("20,000 pipes at a chain of 20,000", 5, lambda: upload(chain(20_000, 20_000))),
     Shape("60,000 walls that share a shape", 4, lambda: upload(walls(60_000))),
     Shape("20,000 walls whose identifiers share a slot", 6, lambda: upload(one_slot(20_000))),
+    Shape("20,000 walls in a storey", 5, lambda: upload(shared_storey(20_000, 10))),
     Shape(
         "5,000 walls in a storey whose name has 100,000 bytes",
         6,

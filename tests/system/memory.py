@@ -6,10 +6,10 @@ from collections.abc import Callable
 from typing import NamedTuple
 
 from tests.hostile.heads import head_of
-from tests.ifc.basics import file_of, pipe, shape, small_pipes, triangle
+from tests.ifc.basics import file_of, pipe, shape, triangle
 from tests.ifc.crowds import mapped, placed, shared_storey, sharing, walls
 from tests.ifc.limits import with_instances
-from tests.ifc.solids import boxes, boxes_at
+from tests.ifc.solids import boxes
 from tests.shapes.files import clashes, many_rows, upload
 from tests.support.checks import expect
 from tests.support.client import Client

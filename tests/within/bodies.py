@@ -6,6 +6,7 @@ import tempfile
 from functools import partial
 
 from tests.ifc.basics import file_of, pipe, shape, small_pipes, triangle
+from tests.oracle.commands import USAGE
 from tests.support.checks import expect
 from tests.support.client import Client, in_threads
 from tests.support.http import Exchange, coord_of, rules, topics_of
@@ -137,6 +138,9 @@ def commands(program: str) -> str:
             )
             said = run.stdout[: len(start)]
             expect((run.returncode, said) == (0, start), f"{words}: {run.returncode} {said!r}")
+        more = [program, "generate", "--count", "10001"]
+        run = subprocess.run(more, stdout=subprocess.PIPE, check=False)
+        expect((run.stdout, run.returncode) == USAGE, f"10001: {run.returncode} {run.stdout!r}")
     return "check and generate"
 
 

@@ -69,4 +69,16 @@ def version_full(program: str) -> str:
     return "100,000 elements"
 
 
-CLASHES = [crowded, carried, memberships, version_full]
+def sixteen(program: str) -> str:
+    """The newest 16 versions are there, and the one before them isn't any more."""
+    with Asking(program) as it:
+        for n in range(17):
+            it.set_rules(n)
+        for version in (2, 17):
+            it.listed(version, 0)
+        gone = it.ask("GET", f"{COORD}/versions/1", None, 410)
+        expect(gone["code"] == "K4", f"{gone}")
+    return "16 of 17 versions"
+
+
+CLASHES = [crowded, carried, memberships, version_full, sixteen]

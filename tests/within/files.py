@@ -5,6 +5,7 @@ from tests.ifc.basics import (
     body_of,
     file_of,
     pipe,
+    pipes,
     points,
     shape,
     small_pipes,
@@ -110,4 +111,17 @@ def greatest(program: str) -> str:
     return ", ".join(f"{what} in {len(file) / 1e6:.1f} MB" for what, file in files.items())
 
 
-FILES = [own_shapes, placements, storeys, pieces, faces, greatest]
+def farthest(program: str) -> str:
+    """Points 800 metres from zero are taken, and those a tenth of a millimetre farther aren't."""
+    with Asking(program) as it:
+        for sign in (1, -1):
+            corners = [(sign * 800_000, 0), (sign * 799_900, 0), (sign * 799_900, 100)]
+            file = file_of(points(4, corners), triangles(5, 4, "(1,2,3)"), shape(), pipes(1))
+            it.upload(file, 1)
+            bad = file.replace(b"800000.,", b"800000.1,")
+            refused = it.ask("PUT", MODEL, bad, 422)
+            expect(refused["code"] == "U10", f"{refused}")
+    return "on both sides"
+
+
+FILES = [farthest, own_shapes, placements, storeys, pieces, faces, greatest]
