@@ -5,8 +5,9 @@
 # make serve             serves on 127.0.0.1:8080 over the built program, until it is stopped
 #
 # make check             the test command, in this order: the lints (make lint); the gate of the toolchain (rt ci); then, over
-#                        the program that it built, the end-to-end cases, clients over sockets, calls of the C library that
-#                        fail in turn, floods, and the speed of reading; then what stands beside the server (BESIDE)
+#                        the program that it built, the end-to-end cases, clients over sockets, what it asks of the system,
+#                        inputs up to the limits, calls of the C library that fail in turn, floods, the speed of reading, and
+#                        what inputs cost by their shape; then what stands beside the server (BESIDE)
 # make lint              what is listed of the repository, and the linters of the Python beside it: below a minute, no toolchain
 # make tests             what make check runs over the built program, without the lints and the toolchain
 # make hostile           failing calls and floods whole, over the program as it was built last: some minutes
@@ -26,6 +27,10 @@ PROGRAM ?= $(SERVER)
 # What stands beside the server, in the order of the gate, which runs each by its target check-NAME.
 BESIDE := convert client api deploy viewer
 DIRECTORY_OF_api := api_check
+
+# The rows of tests/serve that the gate runs: all but the slow ones and those that cases have too.
+SERVE_ROWS := pipelined interleaved clashes curl cut refused_at_once end_by_links end_by_signal \
+	umlauts dates sources idle turns workers pages crowds
 
 .PHONY: try build replay serve check lint tests hostile cases crate program
 .PHONY: $(BESIDE:%=check-%) convert view deb
@@ -69,10 +74,13 @@ lint:
 tests: program
 	python3 -m tests.cases $(PROGRAM)
 	python3 -m tests.examples $(PROGRAM)
-	python3 -m tests.serve $(PROGRAM) pipelined interleaved clashes curl cut end_by_links end_by_signal
+	python3 -m tests.serve $(PROGRAM) $(SERVE_ROWS)
+	python3 -m tests.system $(PROGRAM)
+	python3 -m tests.within $(PROGRAM)
 	python3 -m tests.failing $(PROGRAM) --some 60
 	python3 -m tests.hostile $(PROGRAM)
 	python3 -m tests.reading $(PROGRAM)
+	python3 -m tests.shapes $(PROGRAM)
 
 hostile: program
 	python3 -m tests.failing $(PROGRAM)

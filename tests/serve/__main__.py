@@ -12,6 +12,7 @@ import sys
 from collections.abc import Callable
 from functools import partial
 
+from tests.serve.edges import crowds, dates, idle, pages, sources, turns, umlauts, workers
 from tests.serve.ends import end_by_links, end_by_signal, words
 from tests.serve.many import clashes, curl, interleaved, many_clients, pipelined
 from tests.serve.slow import cut, never_reads, refused_at_once, silent, slow
@@ -32,6 +33,14 @@ ALL: list[Callable[[str], str]] = [
     refused_at_once,
     end_by_links,
     end_by_signal,
+    umlauts,
+    dates,
+    sources,
+    idle,
+    turns,
+    workers,
+    pages,
+    crowds,
     silent,
 ]
 ROWS = {row.__name__: row for row in ALL}

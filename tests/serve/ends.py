@@ -8,7 +8,7 @@ import time
 
 from tests.serve.mind import model
 from tests.support.checks import expect
-from tests.support.client import Client
+from tests.support.client import Client, wait_for_clashes
 from tests.support.http import RULES, coord_of, topics_of
 from tests.support.one_thread import Log, check_replies
 from tests.support.server import HOST, Server
@@ -27,6 +27,9 @@ def end_by_links(program: str) -> str:
         client = Client(server)
         client.ask("PUT", f"{coord_of()}/rules", RULES[1])
         client.ask("PUT", f"{coord_of()}/models/a", model(program, 200, 5))
+        # The other lane has ended: workers are there until all have.
+        expect(wait_for_clashes(client, 2).status == 200, "no clashes")
+        client.ask("PUT", f"{coord_of()}/rules", RULES[2])
         logs.append(client.log)
         expect(server.run.poll() is None, "the server ended before its last connection did")
         client.close()

@@ -36,9 +36,10 @@ class Server:
         projects: int = 1,
         space: int | None = None,
         environment: dict[str, str] | None = None,
+        host: str = HOST,
     ) -> None:
         self.port = free_port()
-        self.words = [program, "serve", "--addr", f"{HOST}:{self.port}", "--lanes", str(lanes)]
+        self.words = [program, "serve", "--addr", f"{host}:{self.port}", "--lanes", str(lanes)]
         self.words += [
             "--workers",
             str(workers),
@@ -75,12 +76,14 @@ class Server:
             if pipe:
                 pipe.close()
 
-    def connect(self, patience: float = 30) -> socket.socket:
-        """A connection, once the server listens."""
+    def connect(self, patience: float = 30, source: str = HOST) -> socket.socket:
+        """A connection from an address of this machine, once the server listens."""
         end = time.monotonic() + patience
         while True:
             it = socket.socket()
             try:
+                if source != HOST:
+                    it.bind((source, 0))
                 it.connect((HOST, self.port))
                 it.setsockopt(socket.IPPROTO_TCP, socket.TCP_NODELAY, 1)
                 it.settimeout(60)
