@@ -14,8 +14,8 @@ use Rattle.odata_filter.specs.TopicMembers.{text_member, date_member}
 use Rattle.odata_filter.specs.Conditions.{Condition, Negated, Both, Either}
 use Rattle.odata_filter.specs.Lexemes.{Lexeme, Word, Open, Close}
 use Rattle.odata_filter.specs.FilterGrammar.{IsTest, compares, searches, Part, Operand, Conjunction, Disjunction, Spells, test, negation, group, first, more, only, other, IsFilter}
-use Rattle.odata_filter.specs.FilterSteps.{empty_level, reading, nothing_read, negated, joined, completed, closed, split_last, behind, without_group, tested, operand_word, step, ended}
-use Rattle.odata_filter.proofs.Runs.{run, run_cons, run_then}
+use Rattle.odata_filter.specs.inner.FilterSteps.{empty_level, reading, nothing_read, negated, joined, completed, closed, split_last, behind, without_group, tested, operand_word, step, ended}
+use Rattle.odata_filter.proofs.FilterRuns.{run, run_cons, run_then}
 
 -- a list that ends in an element is split there
 pub split_last_push : {A : Type 0} (xs : List A) (x : A) → split_last (xs ++ x ∷ []) ≡ Some (xs, x)

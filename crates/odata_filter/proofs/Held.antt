@@ -1,8 +1,6 @@
 -- Each token keeps that what has been read is spelled.
 use Rattle.std.proofs.Common.{◌≡◌, ℕ, suc, ◌+◌, ◌-◌, Bool, true, false, cond, List, [], ◌∷◌, ◌++◌, Option, Some, None, refl, sym, ap, ◌∙◌, subst, append_assoc, arith, codes}
 use Rattle.std.specs.Prelude.{option_map, option_and_then, nat_lt, bytes_eq}
-use Rattle.std.proofs.lemmas.List.{append-nil}
-use Rattle.std.proofs.lemmas.Slice.Eq.{bytes_eq-Decides}
 use Rattle.std.proofs.lemmas.Bool.{ltb-true}
 use Rattle.odata_filter.specs.declared.topic_members.Member.{Member}
 use Rattle.odata_filter.specs.declared.comparison.Comparison.{Comparison}
@@ -18,8 +16,10 @@ use Rattle.odata_filter.specs.TopicMembers.{member_named}
 use Rattle.odata_filter.specs.Conditions.{Condition, Tested, Either}
 use Rattle.odata_filter.specs.Lexemes.{Lexeme, Word, Quoted, Open, Close, Comma, Stray}
 use Rattle.odata_filter.specs.FilterGrammar.{comparison_named, literal_test, searched_named, search_test, IsTest, compares, searches, Operand, Disjunction, Spells, test, group, IsFilter}
-use Rattle.odata_filter.specs.FilterSteps.{empty_level, reading, nothing_read, closed, joined, completed, with_not, with_or, split_last, without_group, tested, operand_word, at_operand, at_operator, at_literal, at_search_open, at_search_member, at_search_comma, at_search_text, at_search_close, at_joint, step_at, step, ended_at, ended}
-use Rattle.odata_filter.proofs.Runs.{run}
+use Rattle.odata_filter.specs.inner.FilterSteps.{empty_level, reading, nothing_read, closed, joined, completed, with_not, with_or, split_last, without_group, tested, operand_word, at_operand, at_operator, at_literal, at_search_open, at_search_member, at_search_comma, at_search_text, at_search_close, at_joint, step_at, step, ended_at, ended}
+use Rattle.odata_filter.proofs.Runs.{run_holds}
+use Rattle.odata_filter.proofs.FilterRuns.{run}
+use Rattle.odata_filter.proofs.OptionFacts.{under_map, some_is, same_bytes}
 use Rattle.odata_filter.proofs.Accepts.{split_last_push}
 use Rattle.odata_filter.proofs.Sound.{Around, outside, inside, nots, AtOperand, AtJoint, operand_joins, operand_not, operand_open, nothing, joint_and, joint_or, joined_closes}
 
@@ -53,12 +53,6 @@ Holds levels ls expected.Joint = AtJoint levels ls
 abbrev pub Holding : Reading → List Lexeme → Type 0
 Holding read ls = Holds read.levels ls read.expected
 
--- the value under `option_map`
-pub under_map : {A B : Type 0} (f : A → B) (o : Option A) (y : B) → option_map f o ≡ Some y
-    → (x : A) × (o ≡ Some x) × (f x ≡ y)
-under_map f None y e = cc
-under_map f (Some x) y e = (x, refl, cc)
-
 -- one more token of an operand
 pub partial_more : (levels : Levels) (ls said : List Lexeme) (l : Lexeme) → Partial levels ls said
     → Partial levels (ls ++ l ∷ []) (said ++ l ∷ [])
@@ -70,14 +64,6 @@ pub partial_test : (levels : Levels) (ls said : List Lexeme) (t : TopicTest) →
     → Holding (tested levels t) ls
 partial_test levels ls said t h d =
     subst (λ k. Holding (tested levels t) k) (sym h.2) (operand_joins levels h.0 said (Tested t) h.1 (test d))
-
--- what `Some` holds is one
-some_is : {A : Type 0} {x y : A} → Some x ≡ Some y → x ≡ y
-some_is e = cc
-
--- equal bytes
-same_bytes : (xs ys : List ℕ) → bytes_eq xs ys ≡ true → xs ≡ ys
-same_bytes xs ys is = (bytes_eq-Decides xs ys).0 is
 
 not_step : (levels : Levels) (ls : List Lexeme) (next : Reading) (b : Bool) → nat_lt levels.inner.depth MOST_NESTED ≡ b
     → cond b (Some (reading expected.Operand
@@ -313,21 +299,6 @@ pub step_holds : (read next : Reading) (ls : List Lexeme) (l : Lexeme) → step 
 unfolding step
 step_holds read next ls l e h = step_at_holds read.levels ls l read.expected next e h
 
-steps_hold : (read next : Reading) (ls : List Lexeme) (l : Lexeme) (ms : List Lexeme) (s : Option Reading)
-    → step read l ≡ s → option_and_then (λ n. run n ms) s ≡ Some next → Holding read ls
-    → ((n : Reading) → run n ms ≡ Some next → Holding n (ls ++ l ∷ []) → Holding next ((ls ++ l ∷ []) ++ ms))
-    → Holding next (ls ++ l ∷ ms)
-steps_hold read next ls l ms None is e h go = cc
-steps_hold read next ls l ms (Some n) is e h go =
-    subst (Holding next) (append_assoc ls (l ∷ []) ms) (go n e (step_holds read n ls l is h))
-
--- several more tokens
-pub run_holds : (read next : Reading) (ls ms : List Lexeme) → run read ms ≡ Some next → Holding read ls
-    → Holding next (ls ++ ms)
-run_holds read next ls [] e h = subst (Holding next) (sym (append-nil ls)) (subst (λ r. Holding r ls) (some_is e) h)
-run_holds read next ls (l ∷ ms) e h =
-    steps_hold read next ls l ms (step read l) refl e h (λ n rest holds. run_holds n next (ls ++ l ∷ []) ms rest holds)
-
 -- before the first token
 start_holds : Holding nothing_read []
 start_holds = record {
@@ -343,7 +314,7 @@ start_holds = record {
 
 -- what has been read of a text
 pub read_holds : (ls : List Lexeme) (read : Reading) → run nothing_read ls ≡ Some read → Holding read ls
-read_holds ls read e = run_holds nothing_read read [] ls e start_holds
+read_holds ls read e = run_holds step Holding step_holds nothing_read read [] ls e start_holds
 
 joint_ends : {base : ℕ} {before : List Lexeme} → Around [] base before → (own : List Lexeme) (x : Condition)
     → Spells Disjunction (MOST_NESTED - base) own x → IsFilter (before ++ own) x

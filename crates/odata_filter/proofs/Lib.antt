@@ -1,8 +1,14 @@
 pub mod Scans
+pub mod OptionFacts
 pub mod Runs
+pub mod TokenReading
+pub mod FilterRuns
 pub mod Accepts
 pub mod Sound
 pub mod Held
 pub mod Viable
-pub mod FilterReading
+pub mod FilterReadings
+pub mod OrderAccepts
+pub mod OrderHeld
+pub mod OrderReadings
 pub mod Ordered

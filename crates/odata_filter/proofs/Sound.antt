@@ -7,7 +7,7 @@ use Rattle.odata_filter.specs.declared.limits.TheConstants.{MOST_NESTED}
 use Rattle.odata_filter.specs.Conditions.{Condition, Both, Either}
 use Rattle.odata_filter.specs.Lexemes.{Lexeme, Word, Open}
 use Rattle.odata_filter.specs.FilterGrammar.{Operand, Conjunction, Disjunction, Spells, negation, first, more, only, other}
-use Rattle.odata_filter.specs.FilterSteps.{negated, joined, level_with}
+use Rattle.odata_filter.specs.inner.FilterSteps.{negated, joined, level_with}
 
 -- so many `not`
 abbrev pub nots : ℕ → List Lexeme

@@ -20,9 +20,9 @@ use Rattle.odata_filter.specs.Conditions.{Condition, Either}
 use Rattle.odata_filter.specs.FilterLiterals.{second_of, number_in, date_in}
 use Rattle.odata_filter.specs.Lexemes.{Lexeme, Word, Quoted, Open, Close, Comma}
 use Rattle.odata_filter.specs.FilterGrammar.{comparison_named, compares, IsFilter}
-use Rattle.odata_filter.specs.FilterSteps.{reading, nothing_read, joined, level_with, completed, tested, step, ended}
+use Rattle.odata_filter.specs.inner.FilterSteps.{reading, nothing_read, joined, level_with, completed, tested, step, ended}
 use Rattle.odata_filter.specs.Readings.{IsViable}
-use Rattle.odata_filter.proofs.Runs.{run, run_cons, run_then}
+use Rattle.odata_filter.proofs.FilterRuns.{run, run_cons, run_then}
 use Rattle.odata_filter.proofs.Accepts.{within, test_runs, close_step}
 use Rattle.odata_filter.proofs.Held.{Holds, read_holds, read_is_filter}
 

@@ -8,7 +8,6 @@ pub mod Lexemes
 pub mod FilterGrammar
 pub mod OrderGrammar
 pub mod Readings
-pub mod FilterSteps
-pub mod OrderSteps
 pub mod TopicOrders
 pub mod Listings
+pub mod inner

@@ -1,7 +1,7 @@
 //! How what has been read of a filter goes on: operands that stand complete, `not`, `or` and parentheses.
 ghost use Rattle.std.specs.Prelude.{◌≡◌, ◌-◌, ◌++◌, ◌∷◌, [], Some, None, option_map, IfOk};
 ghost use Rattle.odata_filter.specs.Conditions.{Both, Either, Tested};
-ghost use Rattle.odata_filter.specs.FilterSteps.{negated, joined, level_with, completed, closed, with_not, with_group, with_or, split_last, without_group, tested};
+ghost use Rattle.odata_filter.specs.inner.FilterSteps.{negated, joined, level_with, completed, closed, with_not, with_group, with_or, split_last, without_group, tested};
 
 use crate::filter::Filter;
 use crate::filter_state::{Expected, Level, Levels, Reading, empty_level};

@@ -1,7 +1,7 @@
 //! How the text of a filter is read.
 ghost use Rattle.std.specs.Prelude.{◌≡◌, IfOk};
 ghost use Rattle.odata_filter.specs.FilterGrammar.{IsFilter};
-ghost use Rattle.odata_filter.specs.FilterSteps.{ended};
+ghost use Rattle.odata_filter.specs.inner.FilterSteps.{ended};
 ghost use Rattle.odata_filter.specs.Readings.{IsRead};
 
 use crate::filter::Filter;
@@ -14,7 +14,7 @@ use crate::limits::MOST_FILTER;
 use std::alloc::{AllocError, Global};
 
 // The filter at the end of a text, where it may end.
-#[tactic(auto, unfolding(crate::specs::FilterSteps::ended))]
+#[tactic(auto, unfolding(crate::specs::inner::FilterSteps::ended))]
 fn ended(alloc: Global, read: Reading) -> Result<Option<Filter>, AllocError>
     ensures { IfOk result (λ found. found ≡ ended read) }
 {

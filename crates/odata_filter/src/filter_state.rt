@@ -1,6 +1,6 @@
 //! What has been read of a filter so far.
 ghost use Rattle.std.specs.Prelude.{◌≡◌};
-ghost use Rattle.odata_filter.specs.FilterSteps.{empty_level, nothing_read};
+ghost use Rattle.odata_filter.specs.inner.FilterSteps.{empty_level, nothing_read};
 
 use crate::comparison::Comparison;
 use crate::filter::Filter;

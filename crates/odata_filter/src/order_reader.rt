@@ -2,7 +2,7 @@
 ghost use Rattle.std.specs.Prelude.{◌≡◌, ◌++◌, ◌∷◌, [], false, Some, None, IfOk};
 ghost use Rattle.odata_filter.specs.Lexemes.{lexeme_of};
 ghost use Rattle.odata_filter.specs.OrderGrammar.{IsOrder};
-ghost use Rattle.odata_filter.specs.OrderSteps.{no_order, with_key, with_comma, with_direction, at_name, at_direction, at_next, order_step, order_ended};
+ghost use Rattle.odata_filter.specs.inner.OrderSteps.{no_order, with_key, with_comma, with_direction, at_name, at_direction, at_next, order_step, order_ended};
 ghost use Rattle.odata_filter.specs.Readings.{IsRead};
 
 use crate::filter_error::FilterError;
@@ -97,7 +97,7 @@ fn at_next(keys: Items<OrderKey>, text: &[u8], token: Token) -> Option<OrderRead
 }
 
 // What has been read with one more token; none where the token can't come there.
-#[tactic(auto, unfolding(crate::specs::OrderSteps::order_step))]
+#[tactic(auto, unfolding(crate::specs::inner::OrderSteps::order_step))]
 fn step(text: &[u8], read: OrderReading, token: Token) -> Result<Option<OrderReading>, AllocError>
     ensures { IfOk result (λ next. next ≡ order_step read (lexeme_of text.now token)) }
 {
@@ -110,7 +110,7 @@ fn step(text: &[u8], read: OrderReading, token: Token) -> Result<Option<OrderRea
 }
 
 // The members at the end of a text, where it may end.
-#[tactic(auto, unfolding(crate::specs::OrderSteps::order_ended))]
+#[tactic(auto, unfolding(crate::specs::inner::OrderSteps::order_ended))]
 fn ended(read: OrderReading) -> Result<Option<Items<OrderKey>>, AllocError>
     ensures { IfOk result (λ found. found ≡ order_ended read) }
 {

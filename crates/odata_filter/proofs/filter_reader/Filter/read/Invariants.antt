@@ -1,13 +1,14 @@
 use Rattle.std.proofs.Common.{◌-◌, ◌≤◌, length}
 use Rattle.odata_filter.specs.declared.limits.TheConstants.{MOST_FILTER}
-use Rattle.odata_filter.proofs.FilterReading.{HasRead}
+use Rattle.odata_filter.specs.inner.FilterSteps.{nothing_read, step}
+use Rattle.odata_filter.proofs.TokenReading.{HasRead}
 use Rattle.odata_filter.proofs.filter_reader.Filter.read.Given as goal
 
 abbrev pub invariant-loop-at : goal.invariant-loop-at
 invariant-loop-at l = record {
   within : l.at ≤ length l.text;
   short : length l.text ≤ MOST_FILTER;
-  so_far : HasRead l.text l.at l.read;
+  so_far : HasRead nothing_read step l.text l.at l.read;
 }
 
 abbrev pub decreases-loop-at : goal.decreases-loop-at

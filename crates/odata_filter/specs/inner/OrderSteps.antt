@@ -9,18 +9,22 @@ use Rattle.odata_filter.specs.declared.limits.TheConstants.{MOST_ORDER_NAMES}
 use Rattle.odata_filter.specs.TopicMembers.{member_named}
 use Rattle.odata_filter.specs.Lexemes.{Lexeme, Word, Quoted, Open, Close, Comma, Stray}
 
+-- those members, where that comes next
+abbrev pub order_reading : OrderExpected → List OrderKey → OrderReading
+order_reading expected keys = record { expected = expected; keys = keys }
+
 -- nothing read yet
 abbrev pub no_order : OrderReading
-no_order = record { expected = Name; keys = [] }
+no_order = order_reading Name []
 
 -- one more member to order by
 abbrev pub with_key : List OrderKey → Member → Bool → OrderReading
-with_key keys member falls = record { expected = Next; keys = keys ++ record { member = member; falls = falls } ∷ [] }
+with_key keys member falls =
+    order_reading Next (keys ++ record { member = member; falls = falls } ∷ [])
 
 -- behind a comma, where one more member may come
 abbrev pub with_comma : List OrderKey → Option OrderReading
-with_comma keys =
-    if nat_lt (length keys) MOST_ORDER_NAMES then Some (record { expected = Name; keys = keys }) else None
+with_comma keys = if nat_lt (length keys) MOST_ORDER_NAMES then Some (order_reading Name keys) else None
 
 -- behind a direction
 abbrev pub with_direction : List OrderKey → Member → List ℕ → Option OrderReading
@@ -30,7 +34,7 @@ with_direction keys member word =
 
 -- where a member comes
 abbrev pub at_name : List OrderKey → Lexeme → Option OrderReading
-at_name keys (Word word) = option_map (λ m. record { expected = Direction m; keys = keys }) (member_named word)
+at_name keys (Word word) = option_map (λ m. order_reading (Direction m) keys) (member_named word)
 at_name keys (Quoted text) = None
 at_name keys Open = None
 at_name keys Close = None
