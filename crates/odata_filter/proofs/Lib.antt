@@ -1,4 +1,5 @@
 pub mod Scans
+pub mod NumberLiterals
 pub mod OptionFacts
 pub mod Runs
 pub mod TokenReading

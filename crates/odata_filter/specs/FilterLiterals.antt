@@ -1,5 +1,5 @@
 -- What the literals of a filter stand for.
-use Rattle.std.specs.Prelude.{ℕ, ℤ, pos, negsuc, int_le, ◌/◌, ◌==◌, nat_lt, nat_le, Bool, true, false, ◌&&◌, cond, List, [], ◌∷◌, length, Option, Some, None, option_and_then}
+use Rattle.std.specs.Prelude.{ℕ, ℤ, pos, negsuc, ◌/◌, ◌==◌, nat_lt, nat_le, Bool, true, false, ◌&&◌, cond, List, [], ◌∷◌, length, Option, Some, None, option_and_then}
 use Rattle.std.specs.List.{list_all}
 use Rattle.std.specs.Char.{is_ascii_digit}
 use Rattle.std.specs.Str.Parse.{signed_digits_value, without_leading_sign}
@@ -18,9 +18,10 @@ unquoted after (b ∷ bytes) =
 abbrev pub is_digits : List ℕ → Bool
 is_digits digits = nat_lt 0 (length digits) && list_all is_ascii_digit digits
 
--- a number of 32 bits
+-- a number of 32 bits in two's complement, where `negsuc n` is -n - 1
 abbrev pub if_32_bits : ℤ → Option ℤ
-if_32_bits n = cond (int_le (negsuc 2147483647) n && int_le n (pos 2147483647)) (Some n) None
+if_32_bits (pos n) = cond (nat_lt n 2147483648) (Some (pos n)) None
+if_32_bits (negsuc n) = cond (nat_lt n 2147483648) (Some (negsuc n)) None
 
 -- the whole number of 32 bits that a word spells: digits with `+`, `-` or nothing before them
 unfoldable pub number_in : List ℕ → Option ℤ
