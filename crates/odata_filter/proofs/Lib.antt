@@ -12,4 +12,5 @@ pub mod FilterReadings
 pub mod OrderAccepts
 pub mod OrderHeld
 pub mod OrderReadings
+pub mod OneReading
 pub mod Ordered

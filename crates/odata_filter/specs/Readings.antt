@@ -35,3 +35,12 @@ IsRead Means text (Err (Bad at)) =
     ((MOST_FILTER < length text) × (at ≡ MOST_FILTER))
     ⊎ ((length text ≤ MOST_FILTER) × (StopsAt Means text at ⊎ EndsEarly Means text at))
 IsRead Means text (Err Memory) = ⊤
+
+-- two answers of readings are the same, or one of them is want of memory
+abbrev pub AreOneReading : {A : Type 0} → Result A FilterError → Result A FilterError → Type 0
+AreOneReading r s = (r ≡ s) ⊎ ((r ≡ Err Memory) ⊎ (s ≡ Err Memory))
+
+-- the readings of a text by a grammar have one answer
+abbrev pub HasOneReading : {A : Type 0} → (List Lexeme → A → Type 0) → Type 0
+HasOneReading {A} Means =
+    (text : List ℕ) (r s : Result A FilterError) → IsRead Means text r → IsRead Means text s → AreOneReading r s
