@@ -14,3 +14,4 @@ pub mod OrderHeld
 pub mod OrderReadings
 pub mod OneReading
 pub mod Ordered
+pub mod OneListing

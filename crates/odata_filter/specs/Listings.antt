@@ -50,3 +50,9 @@ abbrev pub IsListed : Listing → List Topic → List ℕ → Type 0
 IsListed listing topics places =
     (ordered : List ℕ) × IsOrdering listing.filter (keys_of listing.order) topics ordered
     × (places ≡ page_of listing.skip listing.top ordered)
+
+-- topics are listed in one way
+abbrev pub ListsAreOne : Type 0
+ListsAreOne =
+    (listing : Listing) (topics : List Topic) (ps qs : List ℕ) → IsListed listing topics ps
+    → IsListed listing topics qs → ps ≡ qs

@@ -23,7 +23,7 @@ mod topic_test;
 pub use comparison::Comparison;
 pub use filter::Filter;
 pub use filter_error::FilterError;
-pub use laws::{filters_have_one_reading, orders_have_one_reading};
+pub use laws::{filters_have_one_reading, lists_are_one, orders_have_one_reading};
 pub use limits::{MOST_FILTER, MOST_NESTED, MOST_ORDER_NAMES};
 pub use listing::Listing;
 pub use topic_members::{DateMember, Member, TextMember};
