@@ -15,3 +15,5 @@ pub mod OrderReadings
 pub mod OneReading
 pub mod Ordered
 pub mod OneListing
+pub mod Selection
+pub mod Listed

@@ -1,7 +1,8 @@
 //! Lists of topics.
-ghost use Rattle.std.specs.Prelude.{◌≡◌, ◌≤◌, length, IfOk};
+ghost use Rattle.std.specs.Prelude.{◌≡◌, ◌<◌, ◌≤◌, ◌++◌, ℕ, List, length, vec_len, IfOk};
 ghost use Rattle.std.specs.List.Sorted.{IsPermutation, IsSorted};
 ghost use Rattle.odata_filter.specs.Listings.{kept, kept_from, keys_of, by_places, page_of, IsListed};
+ghost use Rattle.odata_filter.specs.inner.PageFronts.{NoneBefore, IsFront};
 
 use crate::filter::Filter;
 use crate::topic_order::{Order, OrderKey, by_keys};
@@ -41,10 +42,12 @@ fn kept_places(
     ensures { IfOk result (λ places. places.items ≡ kept_from 0 filter.now topics.now) }
 {
     let mut places = Vec::new(alloc);
-    for (place, topic) in topics.iter().enumerate() {
+    let mut place = 0;
+    for topic in topics {
         if kept(filter, topic) {
-            places.push(place as u32)?;
+            places.push(place)?;
         }
+        place += 1;
     }
     Ok(places)
 }
@@ -75,6 +78,36 @@ fn by_places(keys: &[OrderKey], topics: &[Topic], i: u32, j: u32) -> Ordering
         },
     };
     order.then(i.cmp(&j))
+}
+
+// Leaves the places that would come first, so many, in no stated order.
+fn select(keys: &[OrderKey], topics: &[Topic], places: &mut Vec<u32>, count: usize)
+    requires { count < vec_len places.old }
+    ensures { (rest : List ℕ) × IsPermutation places.old.items (places.new.items ++ rest)
+        × NoneBefore (by_places keys.now topics.now) places.new.items rest
+        × (length places.new.items ≡ count) }
+{
+    let slice = places.as_mut_slice();
+    slice.select_nth_unstable_by(count, |i, j| by_places(keys, topics, *i, *j));
+    places.truncate(count);
+}
+
+// Leaves the places that a page needs, so that the others need no order.
+fn keep_front(
+    keys: &[OrderKey],
+    topics: &[Topic],
+    places: &mut Vec<u32>,
+    skip: u64,
+    top: Option<u64>,
+)
+    ensures { IsFront (by_places keys.now topics.now) skip top places.old.items places.new.items }
+{
+    if let Some(top) = top {
+        let needed = skip.saturating_add(top);
+        if needed < places.len() as u64 {
+            select(keys, topics, places, needed as usize);
+        }
+    }
 }
 
 // The places in their order.
@@ -109,8 +142,10 @@ impl Listing {
         if topics.len() > u32::MAX as usize {
             return Err(AllocError);
         }
+        let keys = keys_of(&self.order);
         let mut places = kept_places(alloc, &self.filter, topics)?;
-        sort(keys_of(&self.order), topics, &mut places);
+        keep_front(keys, topics, &mut places, self.skip, self.top);
+        sort(keys, topics, &mut places);
         page_of(alloc, self.skip, self.top, &places)
     }
 }
