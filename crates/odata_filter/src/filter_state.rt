@@ -10,7 +10,7 @@ use bim_model::Items;
 use std::alloc::Global;
 
 /// What `contains` searches.
-#[derive(Clone, Copy, Debug, PartialEq, Eq)]
+#[derive(Clone, Copy)]
 pub enum Searched {
     InLabels,
     InMember(TextMember),

@@ -4,7 +4,7 @@ ghost use Rattle.std.specs.List.{take_while};
 ghost use Rattle.odata_filter.specs.FilterTokens.{is_word_byte, text_end, quoted_token, token_at, tokens_from, part_of};
 
 /// What a token is.
-#[derive(Clone, Copy, Debug, PartialEq, Eq)]
+#[derive(Clone, Copy)]
 pub enum TokenKind {
     /// A text in apostrophes.
     Quoted,
@@ -21,7 +21,7 @@ pub enum TokenKind {
 }
 
 /// A token of a text, by the place of its first byte and the place behind its last one.
-#[derive(Clone, Copy, Debug, PartialEq, Eq)]
+#[derive(Clone, Copy)]
 pub struct Token {
     pub kind: TokenKind,
     pub at: usize,

@@ -4,7 +4,7 @@ use crate::topic_order::OrderKey;
 use bim_model::Items;
 
 /// What may come next.
-#[derive(Clone, Copy, Debug, PartialEq, Eq)]
+#[derive(Clone, Copy)]
 pub enum OrderExpected {
     /// A member.
     Name,
