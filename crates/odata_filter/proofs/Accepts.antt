@@ -12,8 +12,8 @@ use Rattle.odata_filter.specs.declared.filter_state.Reading.{Reading}
 use Rattle.odata_filter.specs.declared.limits.TheConstants.{MOST_NESTED}
 use Rattle.odata_filter.specs.TopicMembers.{text_member, date_member}
 use Rattle.odata_filter.specs.Conditions.{Condition, Negated, Both, Either}
-use Rattle.odata_filter.specs.Lexemes.{Lexeme, Word, Open, Close}
-use Rattle.odata_filter.specs.FilterGrammar.{IsTest, compares, searches, Part, Operand, Conjunction, Disjunction, Spells, test, negation, group, first, more, only, other, IsFilter}
+use Rattle.odata_filter.specs.Lexemes.{Lexeme, Word, Quoted, Open, Close, Comma}
+use Rattle.odata_filter.specs.FilterGrammar.{search_test, IsTest, compares, searches, Part, Operand, Conjunction, Disjunction, Spells, test, negation, group, first, more, only, other, IsFilter}
 use Rattle.odata_filter.specs.inner.FilterSteps.{empty_level, reading, nothing_read, negated, joined, completed, closed, split_last, behind, without_group, tested, operand_word, step, ended}
 use Rattle.odata_filter.proofs.FilterRuns.{run, run_cons, run_then}
 
@@ -38,15 +38,20 @@ pub test_runs : (ls : List Lexeme) (t : TopicTest) → IsTest ls t → (levels :
     → run (reading expected.Operand levels) ls ≡ Some (tested levels t)
 unfolding step text_member date_member
 test_runs _ t (compares name word member comparison literal named operator means) levels =
-    run_cons _ (reading (expected.Operator member) levels) (Word name) (Word word ∷ literal ∷ []) _
-    (ap (operand_word levels name) named)
-    (run_cons _ (reading (expected.Literal member comparison) levels) (Word word) (literal ∷ []) _
+    run_cons (reading expected.Operand levels) (reading (expected.Operator member) levels) (Word name)
+    (Word word ∷ literal ∷ []) (Some (tested levels t)) (ap (operand_word levels name) named)
+    (run_cons (reading (expected.Operator member) levels) (reading (expected.Literal member comparison) levels)
+    (Word word) (literal ∷ []) (Some (tested levels t))
     (ap (option_map (λ (c : Comparison). reading (expected.Literal member c) levels)) operator)
-    (run_cons _ (tested levels t) literal [] _ (ap (option_map (λ (u : TopicTest). tested levels u)) means) refl))
+    (run_cons (reading (expected.Literal member comparison) levels) (tested levels t) literal [] (Some (tested levels t))
+    (ap (option_map (λ (u : TopicTest). tested levels u)) means) refl))
 test_runs _ _ (searches name literal searched named) levels =
-    run_cons _ (reading expected.SearchOpen levels) (Word (codes "contains")) _ _ refl
-    (run_cons _ (reading expected.SearchMember levels) Open _ _ refl
-    (run_cons _ (reading (expected.SearchComma searched) levels) (Word name) _ _
+    run_cons (reading expected.Operand levels) (reading expected.SearchOpen levels) (Word (codes "contains"))
+    (Open ∷ Word name ∷ Comma ∷ Quoted literal ∷ Close ∷ []) (Some (tested levels (search_test searched literal))) refl
+    (run_cons (reading expected.SearchOpen levels) (reading expected.SearchMember levels) Open
+    (Word name ∷ Comma ∷ Quoted literal ∷ Close ∷ []) (Some (tested levels (search_test searched literal))) refl
+    (run_cons (reading expected.SearchMember levels) (reading (expected.SearchComma searched) levels) (Word name)
+    (Comma ∷ Quoted literal ∷ Close ∷ []) (Some (tested levels (search_test searched literal)))
     (ap (option_map (λ (s : Searched). reading (expected.SearchComma s) levels)) named) refl))
 
 -- what is read where an operand, operands joined by `and`, or a filter begin

@@ -1,7 +1,8 @@
 -- Each token keeps that what has been read is spelled.
-use Rattle.std.proofs.Common.{◌≡◌, ℕ, suc, ◌+◌, ◌-◌, Bool, true, false, cond, List, [], ◌∷◌, ◌++◌, Option, Some, None, refl, sym, ap, ◌∙◌, subst, append_assoc, arith, codes}
+use Rattle.std.proofs.Common.{◌≡◌, ℕ, suc, ◌+◌, ◌-◌, Bool, true, false, cond, List, [], ◌∷◌, ◌++◌, length, Option, Some, None, refl, sym, ap, ◌∙◌, subst, append_assoc, arith, codes}
 use Rattle.std.specs.Prelude.{option_map, option_and_then, nat_lt, bytes_eq}
 use Rattle.std.proofs.lemmas.Bool.{ltb-true}
+use Rattle.std.proofs.lemmas.List.{length_push}
 use Rattle.odata_filter.specs.declared.topic_members.Member.{Member}
 use Rattle.odata_filter.specs.declared.comparison.Comparison.{Comparison}
 use Rattle.odata_filter.specs.declared.topic_test.TopicTest.{TopicTest}
@@ -316,19 +317,20 @@ start_holds = record {
 pub read_holds : (ls : List Lexeme) (read : Reading) → run nothing_read ls ≡ Some read → Holding read ls
 read_holds ls read e = run_holds step Holding step_holds nothing_read read [] ls e start_holds
 
-joint_ends : {base : ℕ} {before : List Lexeme} → Around [] base before → (own : List Lexeme) (x : Condition)
-    → Spells Disjunction (MOST_NESTED - base) own x → IsFilter (before ++ own) x
-joint_ends outside own x d = d
+joint_ends : {outer : List Level} {base : ℕ} {before : List Lexeme} → Around outer base before → outer ≡ []
+    → (own : List Lexeme) (x : Condition) → Spells Disjunction (MOST_NESTED - base) own x → IsFilter (before ++ own) x
+joint_ends outside e own x d = d
+joint_ends (inside {outer = outer} level ms n around begun deep room) e own x d =
+    absurd (omega (arith, length_push outer level, ap length e))
 
 ends_at : (levels : Levels) (outer : List Level) (e : Expected) (ls : List Lexeme) (x : Condition) → levels.outer ≡ outer
     → ended_at levels outer e ≡ Some x → Holds levels ls e → IsFilter ls x
 ends_at levels [] expected.Joint ls x none e h =
     let is : joined Either levels.inner.either h.both ≡ x =
     some_is (sym (ap (option_map (λ y. joined Either levels.inner.either y)) h.is) ∙ e) in
-    let bottom : Around [] levels.inner.base h.before =
-    subst (λ o. Around o levels.inner.base h.before) none h.around in
     subst (λ k. IsFilter k x) (sym h.whole)
-    (joint_ends bottom h.own x (subst (Spells Disjunction (MOST_NESTED - levels.inner.base) h.own) is (joined_closes h.joins)))
+    (joint_ends h.around none h.own x
+    (subst (Spells Disjunction (MOST_NESTED - levels.inner.base) h.own) is (joined_closes h.joins)))
 ends_at levels _ _ ls x none e h = cc
 
 -- what is read to its end is a filter

@@ -93,6 +93,7 @@ module _ (R : ℕ → ℕ → Ordering) (o : IsTotalOrder R) where
       all : AllByRecursion (NotBefore x) (x ∷ xs)
       all = recursion_from_All (NotBefore x) (x ∷ xs)
           (λ k d h. sorted_far (λ a b. is_lt (R a b)) (ranks_by o (λ (z : ℕ). z)) (x ∷ xs) up 0 k d (omega arith) h)
+
       tail : IsSorted R xs
       tail k d low high =
           let e : suc k + 1 ≡ suc (k + 1) = omega arith in

@@ -2,7 +2,7 @@ use Rattle.std.proofs.Common.{◌-◌, ◌≤◌, length}
 use Rattle.odata_filter.specs.declared.limits.TheConstants.{MOST_FILTER}
 use Rattle.odata_filter.specs.inner.FilterSteps.{nothing_read, step}
 use Rattle.odata_filter.proofs.TokenReading.{HasRead}
-use Rattle.odata_filter.proofs.filter_reader.Filter.read.Given as goal
+use Rattle.odata_filter.proofs.filter.Filter.read.Given as goal
 
 abbrev pub invariant-loop-at : goal.invariant-loop-at
 invariant-loop-at l = record {

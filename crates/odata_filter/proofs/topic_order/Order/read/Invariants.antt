@@ -2,7 +2,7 @@ use Rattle.std.proofs.Common.{◌-◌, ◌≤◌, length}
 use Rattle.odata_filter.specs.declared.limits.TheConstants.{MOST_FILTER}
 use Rattle.odata_filter.specs.inner.OrderSteps.{no_order, order_step}
 use Rattle.odata_filter.proofs.TokenReading.{HasRead}
-use Rattle.odata_filter.proofs.order_reader.Order.read.Given as goal
+use Rattle.odata_filter.proofs.topic_order.Order.read.Given as goal
 
 abbrev pub invariant-loop-at : goal.invariant-loop-at
 invariant-loop-at l = record {
