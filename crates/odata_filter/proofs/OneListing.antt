@@ -9,9 +9,8 @@ use Rattle.std.specs.declared.cmp.Ordering.TheVariants.{Less, Equal, Greater}
 use Rattle.std.proofs.lemmas.Bool.{eqb-true, eqb-false, eq-eqb}
 use Rattle.std.proofs.lemmas.Cmp.{ranked}
 use Rattle.std.proofs.lemmas.List.Elements.{recursion_from_All}
-use Rattle.std.proofs.lemmas.List.Sorted.{ranks_by, sum_by-IsPermutation}
+use Rattle.std.proofs.lemmas.List.Sorted.{ranks_by, sorted_far, sum_by-IsPermutation}
 use Rattle.std.proofs.lemmas.List.Sums.{sum_by-cons}
-use Rattle.core.proofs.slice.Searches.{sorted_far}
 use Rattle.bcf_topics.specs.declared.topic.Topic.{Topic}
 use Rattle.odata_filter.specs.declared.topic_order.OrderKey.{OrderKey}
 use Rattle.odata_filter.specs.declared.listing.Listing.{Listing}
@@ -38,14 +37,15 @@ same_times xs ys p z =
 times_here : (z : ℕ) (xs : List ℕ) → times z (z ∷ xs) ≡ 1 + times z xs
 times_here z xs = rw (eq-eqb z z refl) refl
 
+by_test : (P : ℕ → Type 0) (z x n : ℕ) (b : Bool) → eqb x z ≡ b → P x → (0 < n → P z) → 0 < cond b 1 0 + n → P z
+by_test P z x n true e here rest h = subst P (eqb-true x z e) here
+by_test P z x n false e here rest h = rest (omega arith)
+
 -- what holds of each number of a list holds of one that stands there
 holds_there : (P : ℕ → Type 0) (z : ℕ) (xs : List ℕ) → AllByRecursion P xs → 0 < times z xs → P z
 holds_there P z [] all some = absurd (omega arith)
-holds_there P z (x ∷ xs) all some = by_test (eqb x z) refl some
-  where
-    by_test : (b : Bool) → eqb x z ≡ b → 0 < cond b 1 0 + times z xs → P z
-    by_test true e h = subst P (eqb-true x z e) all.0
-    by_test false e h = holds_there P z xs all.1 (omega arith)
+holds_there P z (x ∷ xs) all some =
+    by_test P z x (times z xs) (eqb x z) refl all.0 (λ h. holds_there P z xs all.1 h) some
 
 module _ (R : ℕ → ℕ → Ordering) (o : IsTotalOrder R) (own : (i j : ℕ) → R i j ≡ Equal → i ≡ j) where
   -- the first one of a sorted list comes behind no other

@@ -7,8 +7,7 @@ use Rattle.std.specs.Ordering.{is_lt}
 use Rattle.std.specs.declared.cmp.Ordering.{Ordering}
 use Rattle.std.proofs.lemmas.List.{append-nil, length-drop, drop-append-le, take-append-le}
 use Rattle.std.proofs.lemmas.List.Elements.{recursion_from_All, All-from_recursion}
-use Rattle.std.proofs.lemmas.List.Sorted.{ranks_by, IsPermutation-refl, IsPermutation-trans, IsPermutation-cons, IsPermutation-middle, IsPermutation-append, All-permutation, length_permutation}
-use Rattle.core.proofs.slice.Searches.{sorted_far}
+use Rattle.std.proofs.lemmas.List.Sorted.{ranks_by, sorted_far, IsPermutation-refl, IsPermutation-trans, IsPermutation-cons, IsPermutation-middle, IsPermutation-append, All-permutation, length_permutation}
 use Rattle.odata_filter.specs.Listings.{page_of}
 use Rattle.odata_filter.specs.inner.PageFronts.{NoneBefore, IsEnough, IsFront}
 
@@ -42,16 +41,17 @@ module _ (R : ℕ → ℕ → Ordering) (o : IsTotalOrder R) where
   ordered [] = []
   ordered (x ∷ xs) = put x (ordered xs)
 
+  moves_by : (x y : ℕ) (ys : List ℕ) (b : Bool) → IsPermutation (x ∷ ys) (put x ys)
+      → IsPermutation (x ∷ (y ∷ ys)) (cond b (y ∷ put x ys) (x ∷ (y ∷ ys)))
+  moves_by x y ys true rest =
+      IsPermutation-trans (x ∷ (y ∷ ys)) (y ∷ (x ∷ ys)) (y ∷ put x ys) (IsPermutation-middle (x ∷ []) y ys)
+      (IsPermutation-cons y (x ∷ ys) (put x ys) rest)
+  moves_by x y ys false rest = IsPermutation-refl (x ∷ (y ∷ ys))
+
   put_moves : (x : ℕ) (ys : List ℕ) → IsPermutation (x ∷ ys) (put x ys)
   unfolding put
   put_moves x [] = IsPermutation-refl (x ∷ [])
-  put_moves x (y ∷ ys) = by_test (is_lt (R y x))
-    where
-      by_test : (b : Bool) → IsPermutation (x ∷ (y ∷ ys)) (cond b (y ∷ put x ys) (x ∷ (y ∷ ys)))
-      by_test true =
-          IsPermutation-trans (x ∷ (y ∷ ys)) (y ∷ (x ∷ ys)) (y ∷ put x ys) (IsPermutation-middle (x ∷ []) y ys)
-          (IsPermutation-cons y (x ∷ ys) (put x ys) (put_moves x ys))
-      by_test false = IsPermutation-refl (x ∷ (y ∷ ys))
+  put_moves x (y ∷ ys) = moves_by x y ys (is_lt (R y x)) (put_moves x ys)
 
   ordered_moves : (xs : List ℕ) → IsPermutation xs (ordered xs)
   unfolding ordered
@@ -63,15 +63,16 @@ module _ (R : ℕ → ℕ → Ordering) (o : IsTotalOrder R) where
   moved_all : (P : ℕ → Type 0) (xs ys : List ℕ) → IsPermutation xs ys → AllByRecursion P xs → AllByRecursion P ys
   moved_all P xs ys p all = recursion_from_All P ys (All-permutation P xs ys p (All-from_recursion P xs all))
 
+  rises_by : (x y : ℕ) (ys : List ℕ) (b : Bool) → is_lt (R y x) ≡ b → Rises (y ∷ ys) → Rises (put x ys)
+      → Rises (cond b (y ∷ put x ys) (x ∷ (y ∷ ys)))
+  rises_by x y ys true e h rest =
+      (moved_all (NotBefore y) (x ∷ ys) (put x ys) (put_moves x ys) (one_way x y e, h.0), rest)
+  rises_by x y ys false e h rest = ((e, all_chain x y ys e h.0), h)
+
   put_rises : (x : ℕ) (ys : List ℕ) → Rises ys → Rises (put x ys)
   unfolding put
   put_rises x [] h = (tt, tt)
-  put_rises x (y ∷ ys) h = by_test (is_lt (R y x)) refl
-    where
-      by_test : (b : Bool) → is_lt (R y x) ≡ b → Rises (cond b (y ∷ put x ys) (x ∷ (y ∷ ys)))
-      by_test true e =
-          (moved_all (NotBefore y) (x ∷ ys) (put x ys) (put_moves x ys) (one_way x y e, h.0), put_rises x ys h.1)
-      by_test false e = ((e, all_chain x y ys e h.0), h)
+  put_rises x (y ∷ ys) h = rises_by x y ys (is_lt (R y x)) refl h (put_rises x ys h.1)
 
   ordered_rises : (xs : List ℕ) → Rises (ordered xs)
   unfolding ordered
