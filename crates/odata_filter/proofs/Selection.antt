@@ -2,7 +2,7 @@
 use Rattle.std.proofs.Common.{◌≡◌, ℕ, zero, suc, ◌+◌, ◌≤◌, ◌<◌, Bool, true, false, cond, List, [], ◌∷◌, ◌++◌, ◌⊎◌, inl, inr, length, get_or, take, drop, Option, Some, None, refl, sym, ap, ◌∙◌, subst, arith}
 use Rattle.std.specs.Cmp.{IsTotalOrder}
 use Rattle.std.specs.List.{AllByRecursion}
-use Rattle.std.specs.List.Sorted.{IsPermutation, IsSorted}
+use Rattle.std.specs.List.Sorted.{IsPermutation, IsSorted, IsSplitAroundBy}
 use Rattle.std.specs.Ordering.{is_lt}
 use Rattle.std.specs.declared.cmp.Ordering.{Ordering}
 use Rattle.std.proofs.lemmas.List.{append-nil, length-drop, drop-append-le, take-append-le}
@@ -129,6 +129,19 @@ module _ (R : ℕ → ℕ → Ordering) (o : IsTotalOrder R) where
         (moved_none front sorted f.rest (ordered f.rest) p (ordered_moves f.rest) f.before)),
   )
 
+  none_before : (front : List ℕ) (x : ℕ) (back : List ℕ) → AllByRecursion (λ f. NotBefore f x) front
+      → AllByRecursion (NotBefore x) back → NoneBefore R front (x ∷ back)
+  none_before [] x back all behind = tt
+  none_before (f ∷ front) x back all behind =
+      ((all.0, all_chain f x back all.0 behind), none_before front x back all.1 behind)
+
+  -- where a list is split around a place, nothing from that place on comes before one in front of it
+  pub split_front : (front : List ℕ) (x : ℕ) (back : List ℕ) → IsSplitAroundBy (λ a b. is_lt (R a b)) front x back
+      → NoneBefore R front (x ∷ back)
+  split_front front x back split =
+      none_before front x back (recursion_from_All (λ f. NotBefore f x) front split.0)
+      (recursion_from_All (NotBefore x) back split.1)
+
   nothing_left : (rest : List ℕ) → rest ≡ [] → ordered rest ≡ []
   unfolding ordered
   nothing_left rest e = ap ordered e
@@ -153,3 +166,27 @@ module _ (R : ℕ → ℕ → Ordering) (o : IsTotalOrder R) where
       page_all skip (Some top) sorted (ordered R o rest) (nothing_left R o rest none)
   same_page skip (Some top) front rest sorted p (inr fits) =
       page_within skip top sorted (ordered R o rest) (omega (arith, length_permutation front sorted p, fits))
+
+before_nothing : (R : ℕ → ℕ → Ordering) (front : List ℕ) → NoneBefore R front []
+before_nothing R [] = tt
+before_nothing R (x ∷ front) = (tt, before_nothing R front)
+
+all_enough : (skip : ℕ) (top : Option ℕ) (front : List ℕ) → IsEnough skip top front []
+all_enough skip None front = refl
+all_enough skip (Some top) front = inl refl
+
+-- all places serve any page
+pub all_front : (R : ℕ → ℕ → Ordering) (skip : ℕ) (top : Option ℕ) (all : List ℕ) → IsFront R skip top all all
+all_front R skip top all = record {
+  rest = [];
+  kept = subst (IsPermutation all) (sym (append-nil all)) (IsPermutation-refl all);
+  before = before_nothing R all;
+  enough = all_enough skip top all;
+}
+
+-- and so many that are selected serve a page of no more
+pub selected_front : (R : ℕ → ℕ → Ordering) (skip top : ℕ) (all front : List ℕ)
+    → (rest : List ℕ) × IsPermutation all (front ++ rest) × NoneBefore R front rest × (length front ≡ skip + top)
+    → IsFront R skip (Some top) all front
+selected_front R skip top all front h =
+    record { rest = h.0; kept = h.1; before = h.2; enough = inr (omega (arith, h.3)) }

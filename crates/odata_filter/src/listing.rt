@@ -1,5 +1,5 @@
 //! Lists of topics.
-ghost use Rattle.std.specs.Prelude.{◌≡◌, ◌<◌, ◌≤◌, ◌++◌, ℕ, List, length, vec_len, IfOk};
+ghost use Rattle.std.specs.Prelude.{◌≡◌, ◌<◌, ◌≤◌, ◌++◌, ℕ, List, length, IfOk};
 ghost use Rattle.std.specs.List.Sorted.{IsPermutation, IsSorted};
 ghost use Rattle.odata_filter.specs.Listings.{kept, kept_from, keys_of, by_places, page_of, IsListed};
 ghost use Rattle.odata_filter.specs.inner.PageFronts.{NoneBefore, IsFront};
@@ -80,34 +80,46 @@ fn by_places(keys: &[OrderKey], topics: &[Topic], i: u32, j: u32) -> Ordering
     order.then(i.cmp(&j))
 }
 
-// Leaves the places that would come first, so many, in no stated order.
-fn select(keys: &[OrderKey], topics: &[Topic], places: &mut Vec<u32>, count: usize)
-    requires { count < vec_len places.old }
-    ensures { (rest : List ℕ) × IsPermutation places.old.items (places.new.items ++ rest)
-        × NoneBefore (by_places keys.now topics.now) places.new.items rest
-        × (length places.new.items ≡ count) }
-{
-    let slice = places.as_mut_slice();
-    slice.select_nth_unstable_by(count, |i, j| by_places(keys, topics, *i, *j));
-    places.truncate(count);
-}
-
-// Leaves the places that a page needs, so that the others need no order.
-fn keep_front(
+// So many of the places that come first, in no stated order.
+fn select(
+    alloc: Global,
     keys: &[OrderKey],
     topics: &[Topic],
-    places: &mut Vec<u32>,
+    places: &mut [u32],
+    count: usize,
+) -> Result<Vec<u32>, AllocError>
+    requires { count < length places.old }
+    ensures { IfOk result (λ front. (rest : List ℕ) × IsPermutation places.old (front.items ++ rest)
+        × NoneBefore (by_places keys.now topics.now) front.items rest × (length front.items ≡ count)) }
+{
+    let (front, _, _) = places.select_nth_unstable_by(
+        count,
+        |i, j| by_places(keys, topics, *i, *j),
+    );
+    let kept = Vec::from_slice(alloc, front)?;
+    Ok(kept)
+}
+
+// The places that a page needs, so that the others need no order.
+fn front_of(
+    alloc: Global,
+    keys: &[OrderKey],
+    topics: &[Topic],
+    places: Vec<u32>,
     skip: u64,
     top: Option<u64>,
-)
-    ensures { IsFront (by_places keys.now topics.now) skip top places.old.items places.new.items }
+) -> Result<Vec<u32>, AllocError>
+    ensures { IfOk result (λ front. IsFront (by_places keys.now topics.now) skip top places.items front.items) }
 {
+    let mut places = places;
     if let Some(top) = top {
         let needed = skip.saturating_add(top);
         if needed < places.len() as u64 {
-            select(keys, topics, places, needed as usize);
+            let front = select(alloc, keys, topics, places.as_mut_slice(), needed as usize)?;
+            return Ok(front);
         }
     }
+    Ok(places)
 }
 
 // The places in their order.
@@ -143,9 +155,10 @@ impl Listing {
             return Err(AllocError);
         }
         let keys = keys_of(&self.order);
-        let mut places = kept_places(alloc, &self.filter, topics)?;
-        keep_front(keys, topics, &mut places, self.skip, self.top);
-        sort(keys, topics, &mut places);
-        page_of(alloc, self.skip, self.top, &places)
+        let kept = kept_places(alloc, &self.filter, topics)?;
+        let mut front = front_of(alloc, keys, topics, kept, self.skip, self.top)?;
+        sort(keys, topics, &mut front);
+        let page = page_of(alloc, self.skip, self.top, &front)?;
+        Ok(page)
     }
 }
