@@ -62,12 +62,12 @@ pub token_more : (text : List ℕ) (at : ℕ) (t : Token) → at < length text �
     → t ≡ token_at at (get_or text at 0) (drop (at + 1) text) → at < t.end → t.end ≤ length text
     → tokens_from at zero (drop at text) ≡ t ∷ tokens_from t.end zero (drop t.end text)
 unfolding tokens_from
-token_more text at t h no is low high =
+token_more text at t h other is low high =
     let e : (at + 1) + (t.end - (at + 1)) ≡ t.end = omega arith in
     at_drop_more (tokens_from at zero) text at 0 h
     ∙ (ap (λ b. cond b (tokens_from (at + 1) zero (drop (at + 1) text))
     (token_at at (get_or text at 0) (drop (at + 1) text) ∷ tokens_from (at + 1)
-    ((token_at at (get_or text at 0) (drop (at + 1) text)).end - (at + 1)) (drop (at + 1) text))) no
+    ((token_at at (get_or text at 0) (drop (at + 1) text)).end - (at + 1)) (drop (at + 1) text))) other
     ∙ (ap (λ (u : Token). u ∷ tokens_from (at + 1) (u.end - (at + 1)) (drop (at + 1) text)) (sym is)
     ∙ ap (λ ts. t ∷ ts) (skip_more text (t.end - (at + 1)) (at + 1) (omega arith)
     ∙ ap (λ k. tokens_from k zero (drop k text)) e)))

@@ -37,10 +37,17 @@ fn without_sign(word: &[u8]) -> &[u8]
     word
 }
 
-fn is_digits(digits: &[u8]) -> bool
-    ensures { result ≡ is_digits digits.now }
+fn are_digits(text: &[u8]) -> bool
+    ensures { result ≡ list_all is_ascii_digit text.now }
 {
-    !digits.is_empty() && digits.iter().all(|b| b.is_ascii_digit())
+    text.iter().all(|b| b.is_ascii_digit())
+}
+
+// Whether a text is one digit or more.
+fn is_digits(text: &[u8]) -> bool
+    ensures { result ≡ is_digits text.now }
+{
+    0 < text.len() && are_digits(text)
 }
 
 /// The whole number of 32 bits that a word spells: digits with `+`, `-` or nothing before them.
