@@ -35,7 +35,7 @@ below b bs h rest zero = h
 below b bs h rest (suc i) = rest i
 
 ascii : (bs : List ℕ) → list_all is_ascii_digit bs ≡ true → IsAscii bs
-ascii [] e i = omega arith
+ascii [] e = λ i. omega arith
 ascii (b ∷ bs) e =
     let parts = and_parts (is_ascii_digit b) (list_all is_ascii_digit bs) e in
     below b bs (low b parts.0) (ascii bs parts.1)
@@ -58,12 +58,12 @@ fits (pos n) h = rw (lt-ltb n 2147483648 h.sfits) refl
 fits (negsuc n) h = rw (lt-ltb n 2147483648 h.sfits) refl
 
 by_test : (n : ℕ) (z : ℤ) (b : Bool) → nat_lt n 2147483648 ≡ b → (n < 2147483648 → ⊥) → cond b (Some z) None ≡ None
-by_test n z true is no = absurd (no (ltb-true n 2147483648 is))
-by_test n z false is no = refl
+by_test n z true is never = absurd (never (ltb-true n 2147483648 is))
+by_test n z false is never = refl
 
 fits_not : (z : ℤ) → (SFits w32 z → ⊥) → if_32_bits z ≡ None
-fits_not (pos n) no = by_test n (pos n) (nat_lt n 2147483648) refl (λ h. no (record { sfits = h }))
-fits_not (negsuc n) no = by_test n (negsuc n) (nat_lt n 2147483648) refl (λ h. no (record { sfits = h }))
+fits_not (pos n) never = by_test n (pos n) (nat_lt n 2147483648) refl (λ h. never (record { sfits = h }))
+fits_not (negsuc n) never = by_test n (negsuc n) (nat_lt n 2147483648) refl (λ h. never (record { sfits = h }))
 
 spelled : (word : List ℕ) → is_digits (without_leading_sign word) ≡ true
     → number_in word ≡ if_32_bits (signed_digits_value 10 word)

@@ -1,7 +1,7 @@
 -- What a reading token by token says of a grammar whose texts its steps read.
 use Rattle.std.proofs.Common.{◌≡◌, ℕ, zero, List, [], ◌∷◌, ◌++◌, length, drop, Option, Some, None, refl, sym, ap, ◌∙◌, subst, append_assoc}
 use Rattle.std.proofs.lemmas.List.{append-nil, map-append}
-use Rattle.std.specs.Prelude.{option_and_then}
+use Rattle.std.specs.Prelude.{option_and_then, MatchOption}
 use Rattle.odata_filter.specs.declared.filter_tokens.Token.{Token}
 use Rattle.odata_filter.specs.FilterTokens.{tokens_from, tokens_of}
 use Rattle.odata_filter.specs.Lexemes.{Lexeme, lexeme_of, lexemes, lexemes_of}
@@ -120,3 +120,9 @@ module _ {S A : Type 0} {start : S} {step : S → Lexeme → Option S} {ended : 
         none = read_is_none (lexemes_of text) read runs is;
         place = refl;
       }
+
+-- there is none
+pub none_left : {A : Type 0} (P : Type 0) (Q : A → Type 0) (r : Option A) → MatchOption r P Q
+    → ((x : A) → r ≡ Some x → ⊥) → P
+none_left P Q None h other = h
+none_left P Q (Some x) h other = absurd (other x refl)
