@@ -12,7 +12,7 @@ use Rattle.odata_filter.specs.declared.filter_state.Reading.{Reading}
 use Rattle.odata_filter.specs.declared.limits.TheConstants.{MOST_NESTED}
 use Rattle.odata_filter.specs.TopicMembers.{text_member, date_member}
 use Rattle.odata_filter.specs.Conditions.{Condition, Negated, Both, Either}
-use Rattle.odata_filter.specs.Lexemes.{Lexeme, Word, Quoted, Open, Close, Comma}
+use Rattle.odata_filter.specs.FilterLexemes.{Lexeme, Word, Quoted, Open, Close, Comma}
 use Rattle.odata_filter.specs.FilterGrammar.{search_test, IsTest, compares, searches, Part, Operand, Conjunction, Disjunction, Spells, test, negation, group, first, more, only, other, IsFilter}
 use Rattle.odata_filter.specs.inner.FilterSteps.{empty_level, reading, nothing_read, negated, joined, completed, closed, split_last, behind, without_group, tested, operand_word, step, ended}
 use Rattle.odata_filter.proofs.FilterRuns.{run, run_cons, run_then}

@@ -5,7 +5,7 @@ use Rattle.odata_filter.specs.declared.filter_tokens.Token.{Token}
 use Rattle.odata_filter.specs.declared.filter_error.FilterError.TheVariants.{Bad}
 use Rattle.odata_filter.specs.declared.limits.TheConstants.{MOST_FILTER}
 use Rattle.odata_filter.specs.FilterTokens.{tokens_from}
-use Rattle.odata_filter.specs.Lexemes.{lexeme_of}
+use Rattle.odata_filter.specs.FilterLexemes.{lexeme_of}
 use Rattle.odata_filter.specs.Readings.{IsRead}
 use Rattle.odata_filter.specs.Conditions.{Condition}
 use Rattle.odata_filter.specs.FilterGrammar.{IsFilter}

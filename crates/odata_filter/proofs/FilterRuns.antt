@@ -1,7 +1,7 @@
 -- Readings of several tokens of a filter.
 use Rattle.std.proofs.Common.{◌≡◌, List, ◌∷◌, ◌++◌, Option, Some}
 use Rattle.odata_filter.specs.declared.filter_state.Reading.{Reading}
-use Rattle.odata_filter.specs.Lexemes.{Lexeme}
+use Rattle.odata_filter.specs.FilterLexemes.{Lexeme}
 use Rattle.odata_filter.specs.inner.FilterSteps.{step}
 use Rattle.odata_filter.proofs.Runs as runs
 

@@ -15,7 +15,7 @@ use Rattle.odata_filter.specs.declared.filter_state.Reading.{Reading}
 use Rattle.odata_filter.specs.declared.limits.TheConstants.{MOST_NESTED}
 use Rattle.odata_filter.specs.TopicMembers.{member_named}
 use Rattle.odata_filter.specs.Conditions.{Condition, Tested, Either}
-use Rattle.odata_filter.specs.Lexemes.{Lexeme, Word, Quoted, Open, Close, Comma, Stray}
+use Rattle.odata_filter.specs.FilterLexemes.{Lexeme, Word, Quoted, Open, Close, Comma, Stray}
 use Rattle.odata_filter.specs.FilterGrammar.{comparison_named, literal_test, searched_named, search_test, IsTest, compares, searches, Operand, Disjunction, Spells, test, group, IsFilter}
 use Rattle.odata_filter.specs.inner.FilterSteps.{empty_level, reading, nothing_read, closed, joined, completed, with_not, with_or, split_last, without_group, tested, operand_word, at_operand, at_operator, at_literal, at_search_open, at_search_member, at_search_comma, at_search_text, at_search_close, at_joint, step_at, step, ended_at, ended}
 use Rattle.odata_filter.proofs.Runs.{run_holds}

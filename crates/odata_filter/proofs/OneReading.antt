@@ -5,7 +5,7 @@ use Rattle.odata_filter.specs.declared.filter_tokens.Token.{Token}
 use Rattle.odata_filter.specs.declared.filter_error.FilterError.{FilterError}
 use Rattle.odata_filter.specs.declared.filter_error.FilterError.TheVariants.{Bad, Memory}
 use Rattle.odata_filter.specs.FilterTokens.{tokens_of}
-use Rattle.odata_filter.specs.Lexemes.{Lexeme, lexeme_of, lexemes, lexemes_of}
+use Rattle.odata_filter.specs.FilterLexemes.{Lexeme, lexeme_of, lexemes, lexemes_of}
 use Rattle.odata_filter.specs.Readings.{IsViable, StopsAt, EndsEarly, IsRead, AreOneReading}
 
 -- two cuts of one list: at the same element, or one behind the other

@@ -10,7 +10,7 @@ use Rattle.odata_filter.specs.declared.order_state.OrderExpected.TheVariants.{Na
 use Rattle.odata_filter.specs.declared.order_state.OrderReading.{OrderReading}
 use Rattle.odata_filter.specs.declared.limits.TheConstants.{MOST_ORDER_NAMES}
 use Rattle.odata_filter.specs.TopicMembers.{member_named}
-use Rattle.odata_filter.specs.Lexemes.{Lexeme, Word, Comma}
+use Rattle.odata_filter.specs.FilterLexemes.{Lexeme, Word, Comma}
 use Rattle.odata_filter.specs.OrderGrammar.{IsDirection, unsaid, rising, falling, IsKey, key, AreKeys, single, joined, IsOrder}
 use Rattle.odata_filter.specs.inner.OrderSteps.{order_reading, no_order, with_key, with_comma, order_step_at, order_step, order_ended_at, order_ended}
 use Rattle.odata_filter.proofs.Runs.{run, run_cons, run_then}

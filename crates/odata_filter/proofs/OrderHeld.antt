@@ -12,7 +12,7 @@ use Rattle.odata_filter.specs.declared.order_state.OrderExpected.TheVariants.{Na
 use Rattle.odata_filter.specs.declared.order_state.OrderReading.{OrderReading}
 use Rattle.odata_filter.specs.declared.limits.TheConstants.{MOST_ORDER_NAMES}
 use Rattle.odata_filter.specs.TopicMembers.{text_member, member_named}
-use Rattle.odata_filter.specs.Lexemes.{Lexeme, Word, Quoted, Open, Close, Comma, Stray}
+use Rattle.odata_filter.specs.FilterLexemes.{Lexeme, Word, Quoted, Open, Close, Comma, Stray}
 use Rattle.odata_filter.specs.OrderGrammar.{IsDirection, unsaid, rising, falling, IsKey, key, AreKeys, single, joined, IsOrder}
 use Rattle.odata_filter.specs.Readings.{IsViable}
 use Rattle.odata_filter.specs.inner.OrderSteps.{order_reading, no_order, with_key, at_name, at_direction, at_next, order_step_at, order_step, order_ended_at, order_ended}

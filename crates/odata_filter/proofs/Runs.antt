@@ -2,7 +2,7 @@
 use Rattle.std.proofs.Common.{◌≡◌, List, [], ◌∷◌, ◌++◌, Option, Some, None, refl, sym, ap, ◌∙◌, subst, append_assoc}
 use Rattle.std.proofs.lemmas.List.{append-nil}
 use Rattle.std.specs.Prelude.{option_and_then}
-use Rattle.odata_filter.specs.Lexemes.{Lexeme}
+use Rattle.odata_filter.specs.FilterLexemes.{Lexeme}
 use Rattle.odata_filter.proofs.OptionFacts.{some_is}
 
 module _ {S : Type 0} (step : S → Lexeme → Option S) where

@@ -5,7 +5,7 @@ use Rattle.odata_filter.specs.declared.filter_state.Level.{Level}
 use Rattle.odata_filter.specs.declared.filter_state.Levels.{Levels}
 use Rattle.odata_filter.specs.declared.limits.TheConstants.{MOST_NESTED}
 use Rattle.odata_filter.specs.Conditions.{Condition, Both, Either}
-use Rattle.odata_filter.specs.Lexemes.{Lexeme, Word, Open}
+use Rattle.odata_filter.specs.FilterLexemes.{Lexeme, Word, Open}
 use Rattle.odata_filter.specs.FilterGrammar.{Operand, Conjunction, Disjunction, Spells, negation, first, more, only, other}
 use Rattle.odata_filter.specs.inner.FilterSteps.{negated, joined, level_with}
 

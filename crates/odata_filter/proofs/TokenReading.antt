@@ -4,7 +4,7 @@ use Rattle.std.proofs.lemmas.List.{append-nil, map-append}
 use Rattle.std.specs.Prelude.{option_and_then, MatchOption}
 use Rattle.odata_filter.specs.declared.filter_tokens.Token.{Token}
 use Rattle.odata_filter.specs.FilterTokens.{tokens_from, tokens_of}
-use Rattle.odata_filter.specs.Lexemes.{Lexeme, lexeme_of, lexemes, lexemes_of}
+use Rattle.odata_filter.specs.FilterLexemes.{Lexeme, lexeme_of, lexemes, lexemes_of}
 use Rattle.odata_filter.specs.Readings.{IsViable, StopsAt, EndsEarly}
 use Rattle.odata_filter.proofs.Runs.{run, run_cons, run_then}
 

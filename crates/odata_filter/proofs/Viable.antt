@@ -18,7 +18,7 @@ use Rattle.odata_filter.specs.declared.filter_state.Reading.{Reading}
 use Rattle.odata_filter.specs.TopicMembers.{text_member, date_member}
 use Rattle.odata_filter.specs.Conditions.{Condition, Tested, Both, Either}
 use Rattle.odata_filter.specs.FilterLiterals.{second_of, number_in, date_in}
-use Rattle.odata_filter.specs.Lexemes.{Lexeme, Word, Quoted, Open, Close, Comma}
+use Rattle.odata_filter.specs.FilterLexemes.{Lexeme, Word, Quoted, Open, Close, Comma}
 use Rattle.odata_filter.specs.FilterGrammar.{comparison_named, search_test, compares, IsFilter}
 use Rattle.odata_filter.specs.inner.FilterSteps.{reading, nothing_read, negated, joined, level_with, completed, tested, step, ended}
 use Rattle.odata_filter.specs.Readings.{IsViable}

@@ -37,6 +37,7 @@ abbrev pub first_made : List Condition → Condition
 first_made [] = Tested (Labelled [])
 first_made (x ∷ made) = x
 
+-- the marks of a filter make it
 marks_make : (x : Condition) (made : List Condition) (marks : List Mark)
     → made_of made (marks_of x ++ marks) ≡ made_of (x ∷ made) marks
 marks_make (Tested test) made marks = refl
@@ -61,5 +62,5 @@ told_by_marks x =
 -- the code of a filter, by that of a test
 abbrev pub condition_code : Coded TopicTest → Coded Condition
 condition_code test =
-    code_by (List Mark) (coded_list (coded⊎ test (coded_option coded_bool))) marks_of (λ ms. first_made (made_of [] ms))
-    told_by_marks
+    code_by (List Mark) (coded_list (coded⊎ test (coded_option coded_bool))) marks_of
+    (λ ms. first_made (made_of [] ms)) told_by_marks

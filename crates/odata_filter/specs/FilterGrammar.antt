@@ -13,7 +13,7 @@ use Rattle.odata_filter.specs.declared.limits.TheConstants.{MOST_NESTED}
 use Rattle.odata_filter.specs.TopicMembers.{text_member, member_named}
 use Rattle.odata_filter.specs.Conditions.{Condition, Tested, Negated, Both, Either}
 use Rattle.odata_filter.specs.FilterLiterals.{number_in, date_in}
-use Rattle.odata_filter.specs.Lexemes.{Lexeme, Word, Quoted, Open, Close, Comma, Stray}
+use Rattle.odata_filter.specs.FilterLexemes.{Lexeme, Word, Quoted, Open, Close, Comma, Stray}
 
 -- the operator of that name
 unfoldable pub comparison_named : List ℕ → Option Comparison
@@ -38,7 +38,8 @@ null_test member AtMost = None
 abbrev pub value_test : List ℕ → Member → Comparison → Option TopicTest
 value_test word (OfText member) comparison = None
 value_test word Index comparison = option_map (λ n. Number comparison n) (number_in word)
-value_test word (OfDate member) comparison = option_map (λ moment. Date member comparison moment) (date_in word)
+value_test word (OfDate member) comparison =
+    option_map (λ moment. Date member comparison moment) (date_in word)
 
 -- the test that a word stands in
 abbrev pub word_test : List ℕ → Member → Comparison → Option TopicTest
@@ -72,8 +73,8 @@ search_test (InMember member) literal = Contains member literal
 
 -- a test of one member: a member, an operator and a literal, or `contains(member,'text')`
 pub data IsTest : List Lexeme → TopicTest → Type 0 where
-  compares : {test : TopicTest} (name word : List ℕ) (member : Member) (comparison : Comparison) (literal : Lexeme)
-      → member_named name ≡ Some member → comparison_named word ≡ Some comparison
+  compares : {test : TopicTest} (name word : List ℕ) (member : Member) (comparison : Comparison)
+      (literal : Lexeme) → member_named name ≡ Some member → comparison_named word ≡ Some comparison
       → literal_test member comparison literal ≡ Some test
       → IsTest (Word name ∷ Word word ∷ literal ∷ []) test
   searches : (name literal : List ℕ) (searched : Searched) → searched_named name ≡ Some searched
@@ -84,17 +85,20 @@ pub data IsTest : List Lexeme → TopicTest → Type 0 where
 pub data Part : Type 0 where
   Operand Conjunction Disjunction : Part
 
--- What a part of a filter is, in which so many `not` and `(` may still be open within each other, and what it means.
+-- What a part of a filter is, in which so many `not` and `(` may still be open within each other, and what it
+-- means.
 pub data Spells : Part → ℕ → List Lexeme → Condition → Type 0 where
   test : {room : ℕ} {ls : List Lexeme} {t : TopicTest} → IsTest ls t → Spells Operand room ls (Tested t)
   negation : {room : ℕ} {ls : List Lexeme} {x : Condition} → Spells Operand room ls x
       → Spells Operand (suc room) (Word (codes "not") ∷ ls) (Negated x)
   group : {room : ℕ} {ls : List Lexeme} {x : Condition} → Spells Disjunction room ls x
       → Spells Operand (suc room) (Open ∷ (ls ++ Close ∷ [])) x
-  first : {room : ℕ} {ls : List Lexeme} {x : Condition} → Spells Operand room ls x → Spells Conjunction room ls x
-  more : {room : ℕ} {ls ms : List Lexeme} {x y : Condition} → Spells Conjunction room ls x → Spells Operand room ms y
-      → Spells Conjunction room (ls ++ Word (codes "and") ∷ ms) (Both x y)
-  only : {room : ℕ} {ls : List Lexeme} {x : Condition} → Spells Conjunction room ls x → Spells Disjunction room ls x
+  first : {room : ℕ} {ls : List Lexeme} {x : Condition} → Spells Operand room ls x
+      → Spells Conjunction room ls x
+  more : {room : ℕ} {ls ms : List Lexeme} {x y : Condition} → Spells Conjunction room ls x
+      → Spells Operand room ms y → Spells Conjunction room (ls ++ Word (codes "and") ∷ ms) (Both x y)
+  only : {room : ℕ} {ls : List Lexeme} {x : Condition} → Spells Conjunction room ls x
+      → Spells Disjunction room ls x
   other : {room : ℕ} {ls ms : List Lexeme} {x y : Condition} → Spells Disjunction room ls x
       → Spells Conjunction room ms y → Spells Disjunction room (ls ++ Word (codes "or") ∷ ms) (Either x y)
 

@@ -18,7 +18,8 @@ is_word_byte b =
 abbrev pub text_end : Bool → ℕ → List ℕ → Option ℕ
 text_end after at [] = cond after (Some at) None
 text_end after at (b ∷ bytes) =
-    cond (b == 39) (text_end (not after) (at + 1) bytes) (cond after (Some at) (text_end false (at + 1) bytes))
+    cond (b == 39) (text_end (not after) (at + 1) bytes)
+    (cond after (Some at) (text_end false (at + 1) bytes))
 
 -- a text that ends there; without an end its apostrophe is a byte without a token
 abbrev pub quoted_token : ℕ → Option ℕ → Token

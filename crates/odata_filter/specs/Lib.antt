@@ -4,7 +4,7 @@ pub mod ConditionCodes
 pub mod FilterTrees
 pub mod FilterTokens
 pub mod FilterLiterals
-pub mod Lexemes
+pub mod FilterLexemes
 pub mod FilterGrammar
 pub mod OrderGrammar
 pub mod Readings

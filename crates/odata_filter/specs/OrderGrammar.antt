@@ -5,7 +5,7 @@ use Rattle.odata_filter.specs.declared.topic_members.Member.{Member}
 use Rattle.odata_filter.specs.declared.topic_order.OrderKey.{OrderKey}
 use Rattle.odata_filter.specs.declared.limits.TheConstants.{MOST_ORDER_NAMES}
 use Rattle.odata_filter.specs.TopicMembers.{member_named}
-use Rattle.odata_filter.specs.Lexemes.{Lexeme, Word, Comma}
+use Rattle.odata_filter.specs.FilterLexemes.{Lexeme, Word, Comma}
 
 -- the directions, and whether they fall
 pub data IsDirection : List Lexeme → Bool → Type 0 where

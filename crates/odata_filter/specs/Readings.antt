@@ -6,7 +6,7 @@ use Rattle.odata_filter.specs.declared.filter_error.FilterError.{FilterError}
 use Rattle.odata_filter.specs.declared.filter_error.FilterError.TheVariants.{Bad, Memory}
 use Rattle.odata_filter.specs.declared.limits.TheConstants.{MOST_FILTER}
 use Rattle.odata_filter.specs.FilterTokens.{tokens_of}
-use Rattle.odata_filter.specs.Lexemes.{Lexeme, lexemes, lexemes_of}
+use Rattle.odata_filter.specs.FilterLexemes.{Lexeme, lexemes, lexemes_of}
 
 -- some tokens complete these to a text of the grammar
 abbrev pub IsViable : {A : Type 0} → (List Lexeme → A → Type 0) → List Lexeme → Type 0
@@ -43,4 +43,5 @@ AreOneReading r s = (r ≡ s) ⊎ ((r ≡ Err Memory) ⊎ (s ≡ Err Memory))
 -- the readings of a text by a grammar have one answer
 abbrev pub HasOneReading : {A : Type 0} → (List Lexeme → A → Type 0) → Type 0
 HasOneReading {A} Means =
-    (text : List ℕ) (r s : Result A FilterError) → IsRead Means text r → IsRead Means text s → AreOneReading r s
+    (text : List ℕ) (r s : Result A FilterError) → IsRead Means text r → IsRead Means text s
+    → AreOneReading r s

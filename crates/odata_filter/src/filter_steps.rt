@@ -3,7 +3,7 @@ ghost use Rattle.std.specs.Prelude.{◌≡◌, ◌+◌, ◌-◌, ◌^◌, ◌<�
 ghost use Rattle.odata_filter.specs.FilterTokens.{part_of};
 ghost use Rattle.odata_filter.specs.FilterLiterals.{unquoted};
 ghost use Rattle.odata_filter.specs.TopicMembers.{member_named};
-ghost use Rattle.odata_filter.specs.Lexemes.{word_of, quoted_of, lexeme_at, lexeme_of};
+ghost use Rattle.odata_filter.specs.FilterLexemes.{word_of, quoted_of, lexeme_at, lexeme_of};
 ghost use Rattle.odata_filter.specs.FilterGrammar.{null_test, value_test, word_test, text_test, literal_test, searched_named, search_test};
 ghost use Rattle.odata_filter.specs.inner.FilterSteps.{reading, tested, operand_word, at_operand, at_operator, at_literal, at_search_open, at_search_member, at_search_comma, at_search_text, at_search_close, joint_word, at_joint, step};
 

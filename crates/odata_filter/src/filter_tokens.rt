@@ -60,7 +60,8 @@ fn word_end(text: &[u8], from: usize) -> usize
 fn text_end(text: &[u8], from: usize) -> Option<usize>
     requires { from ≤ length text.now }
     ensures value { result ≡ text_end false from (drop from text.now) }
-    ensures within { MatchOption result (from ≤ length text.now) (λ end. (from ≤ end) × (end ≤ length text.now)) }
+    ensures within { MatchOption result (from ≤ length text.now)
+        (λ end. (from ≤ end) × (end ≤ length text.now)) }
 {
     let mut after = false;
     let mut at = from;

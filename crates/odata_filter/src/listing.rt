@@ -109,7 +109,8 @@ fn front_of(
     skip: u64,
     top: Option<u64>,
 ) -> Result<Vec<u32>, AllocError>
-    ensures { IfOk result (λ front. IsFront (by_places keys.now topics.now) skip top places.items front.items) }
+    ensures { IfOk result (λ front.
+        IsFront (by_places keys.now topics.now) skip top places.items front.items) }
 {
     let mut places = places;
     if let Some(top) = top {

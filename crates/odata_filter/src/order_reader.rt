@@ -1,6 +1,6 @@
 //! How the text of an order is read.
 ghost use Rattle.std.specs.Prelude.{◌≡◌, ◌++◌, ◌∷◌, [], false, Some, None, IfOk};
-ghost use Rattle.odata_filter.specs.Lexemes.{lexeme_of};
+ghost use Rattle.odata_filter.specs.FilterLexemes.{lexeme_of};
 ghost use Rattle.odata_filter.specs.OrderGrammar.{IsOrder};
 ghost use Rattle.odata_filter.specs.inner.OrderSteps.{no_order, with_key, with_comma, with_direction, at_name, at_direction, at_next, order_step, order_ended};
 ghost use Rattle.odata_filter.specs.Readings.{IsRead};

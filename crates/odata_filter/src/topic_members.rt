@@ -87,7 +87,8 @@ impl TextMember {
 
     /// Its bytes in a topic, where it is there.
     pub fn of(self, topic: &Topic) -> Option<&[u8]>
-        ensures { MatchOption result (text_of self topic.now ≡ None) (λ bytes. text_of self topic.now ≡ Some bytes.now) }
+        ensures { MatchOption result (text_of self topic.now ≡ None)
+            (λ bytes. text_of self topic.now ≡ Some bytes.now) }
     {
         match self {
             TextMember::Title => Some(topic.body.title.as_str().as_bytes()),

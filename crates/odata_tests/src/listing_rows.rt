@@ -1,296 +1,296 @@
 //! Lists of the sample topics, with what an independent program made of each.
-use crate::wanted::ListingRow;
+use crate::rows::ListingRow;
 
 /// A filter, an order, how many are left out, how many are listed at most, and what is listed.
 pub static LISTINGS: [ListingRow; 60] = [
-    ListingRow(Some("not(title eq 'one')"), None, 5, Some(0), &[]),
-    ListingRow(Some("priority gt 'a'"), None, 15, Some(2), &[]),
-    ListingRow(
+    (Some("not(title eq 'one')"), None, 5, Some(0), &[]),
+    (Some("priority gt 'a'"), None, 15, Some(2), &[]),
+    (
         Some("topic_type ne 'Clash'"),
         Some("title desc ,topic_type ,due_date desc ,creation_date desc"),
         1,
         Some(10),
         &[16, 19, 1, 37, 7, 40, 25, 22, 34, 13],
     ),
-    ListingRow(
+    (
         Some("index ne -001"),
         Some("modified_author asc, modified_date desc"),
         999999999999999,
         Some(1),
         &[],
     ),
-    ListingRow(
+    (
         None,
         Some("priority desc,due_date desc,creation_date desc,title"),
         1,
         Some(2),
         &[7, 10],
     ),
-    ListingRow(
+    (
         Some("not index eq 7"),
         Some("index,title asc,creation_author asc"),
         14,
         Some(0),
         &[],
     ),
-    ListingRow(
+    (
         None,
         Some("topic_type desc,stage,topic_type asc,topic_type desc"),
         0,
         Some(3),
         &[40, 7, 31],
     ),
-    ListingRow(
+    (
         Some("not title eq 'one' or index eq 7"),
         Some("index,title asc,creation_author asc"),
         15,
         Some(999999999999999),
         &[],
     ),
-    ListingRow(
+    (
         Some("modified_date le 2024-05-01T12:01:00Z"),
         None,
         0,
         Some(999999999999999),
         &[4, 13, 16, 28, 37],
     ),
-    ListingRow(Some("index ge 0"), None, 15, None, &[]),
-    ListingRow(Some("title ne 'one'"), None, 15, Some(3), &[]),
-    ListingRow(
+    (Some("index ge 0"), None, 15, None, &[]),
+    (Some("title ne 'one'"), None, 15, Some(3), &[]),
+    (
         Some("title lt 'a'"),
         Some("due_date asc,topic_type desc,description desc"),
         2,
         Some(14),
         &[4, 22, 10],
     ),
-    ListingRow(
+    (
         Some("description ne null"),
         Some("creation_date desc,creation_date desc,index asc"),
         14,
         Some(0),
         &[],
     ),
-    ListingRow(
+    (
         None,
         Some("due_date"),
         1,
         Some(14),
         &[13, 16, 19, 28, 31, 37, 40, 7, 34, 4, 25, 22, 10],
     ),
-    ListingRow(
+    (
         Some("not (index eq 7)"),
         None,
         5,
         Some(999999999999999),
         &[19, 25, 28, 31, 34, 40],
     ),
-    ListingRow(
+    (
         Some("(description ne 'Clash')"),
         Some("title desc,modified_date desc,description,index desc"),
         999999999999999,
         Some(3),
         &[],
     ),
-    ListingRow(
+    (
         Some("(not index lt 7 or stage le 'é' or contains(title,'a'))"),
         Some("topic_type desc,topic_status,priority"),
         999999999999999,
         Some(2),
         &[],
     ),
-    ListingRow(Some("title le 'one'"), None, 0, Some(1), &[1]),
-    ListingRow(
+    (Some("title le 'one'"), None, 0, Some(1), &[1]),
+    (
         Some("not (contains(title,'one'))"),
         Some("title desc,due_date desc,modified_date asc"),
         999999999999999,
         Some(999999999999999),
         &[],
     ),
-    ListingRow(
+    (
         Some("description le 'eva' or not priority ne null"),
         Some("modified_author asc, modified_date desc"),
         999999999999999,
         Some(3),
         &[],
     ),
-    ListingRow(
+    (
         Some("priority ne 'high'"),
         None,
         0,
         None,
         &[1, 7, 13, 16, 19, 22, 25, 28, 31, 37, 40],
     ),
-    ListingRow(None, Some("topic_type desc"), 15, Some(2), &[]),
-    ListingRow(
+    (None, Some("topic_type desc"), 15, Some(2), &[]),
+    (
         Some("stage eq null and topic_type eq null or ((stage eq null or topic_type lt 'Clash'))"),
         None,
         2,
         Some(0),
         &[],
     ),
-    ListingRow(
+    (
         Some("index ne null"),
         Some("topic_type desc,topic_status,priority"),
         15,
         Some(14),
         &[],
     ),
-    ListingRow(
+    (
         Some("description le 'eva' or not priority ne null"),
         Some("priority desc,modified_date desc,modified_author asc"),
         999999999999999,
         Some(2),
         &[],
     ),
-    ListingRow(Some("priority ge 'eva'"), None, 15, Some(3), &[]),
-    ListingRow(None, Some("priority asc,priority desc"), 15, Some(3), &[]),
-    ListingRow(
+    (Some("priority ge 'eva'"), None, 15, Some(3), &[]),
+    (None, Some("priority asc,priority desc"), 15, Some(3), &[]),
+    (
         Some("stage eq null and topic_type eq null or ((stage eq null or topic_type lt 'Clash'))"),
         None,
         1,
         Some(10),
         &[7, 13, 16, 22, 25, 28, 31, 37, 40],
     ),
-    ListingRow(
+    (
         None,
         Some("due_date asc,topic_type desc,description desc"),
         5,
         Some(14),
         &[13, 19, 37, 7, 34, 4, 25, 22, 10],
     ),
-    ListingRow(
+    (
         None,
         Some("topic_type desc,topic_status,priority"),
         2,
         Some(999999999999999),
         &[10, 31, 4, 25, 1, 19, 28, 37, 22, 34, 16, 13],
     ),
-    ListingRow(None, Some("creation_date desc"), 15, Some(10), &[]),
-    ListingRow(
+    (None, Some("creation_date desc"), 15, Some(10), &[]),
+    (
         None,
         Some("stage,assigned_to desc"),
         999999999999999,
         Some(999999999999999),
         &[],
     ),
-    ListingRow(
+    (
         Some("title le 'one'"),
         Some("title desc ,topic_type ,due_date desc ,creation_date desc"),
         2,
         Some(0),
         &[],
     ),
-    ListingRow(
+    (
         Some("title eq'one'or(index eq 7)"),
         Some("index desc"),
         999999999999999,
         Some(0),
         &[],
     ),
-    ListingRow(None, Some("creation_author"), 2, Some(1), &[28]),
-    ListingRow(
+    (None, Some("creation_author"), 2, Some(1), &[28]),
+    (
         Some("not not not not not not not not not not not not not not not contains(title,'one')"),
         Some("title  "),
         999999999999999,
         Some(2),
         &[],
     ),
-    ListingRow(
+    (
         Some("creation_date ge 1970-01-01T00:00:00Z"),
         Some("creation_date desc"),
         14,
         Some(14),
         &[],
     ),
-    ListingRow(
+    (
         Some("not index eq 7"),
         Some("title  "),
         5,
         None,
         &[7, 1, 19, 16, 31, 28],
     ),
-    ListingRow(None, Some("priority asc,priority desc"), 15, None, &[]),
-    ListingRow(None, None, 5, Some(0), &[]),
-    ListingRow(
+    (None, Some("priority asc,priority desc"), 15, None, &[]),
+    (None, None, 5, Some(0), &[]),
+    (
         None,
         Some("modified_author desc,topic_type asc"),
         14,
         Some(10),
         &[],
     ),
-    ListingRow(
+    (
         None,
         Some("creation_author,priority asc"),
         999999999999999,
         Some(10),
         &[],
     ),
-    ListingRow(
+    (
         None,
         Some("description, description asc, title desc, due_date"),
         0,
         Some(1),
         &[19],
     ),
-    ListingRow(Some("not(title eq 'one')"), Some("index"), 14, Some(0), &[]),
-    ListingRow(
+    (Some("not(title eq 'one')"), Some("index"), 14, Some(0), &[]),
+    (
         Some("modified_author eq null"),
         Some("creation_author,priority asc"),
         15,
         Some(2),
         &[],
     ),
-    ListingRow(
+    (
         Some("index ne -001"),
         None,
         0,
         Some(10),
         &[1, 4, 10, 13, 16, 19, 22, 25, 28, 31],
     ),
-    ListingRow(Some("not priority eq null"), None, 1, Some(2), &[7, 10]),
-    ListingRow(
+    (Some("not priority eq null"), None, 1, Some(2), &[7, 10]),
+    (
         Some("((due_date le 2024-05-01T14:00:01+02:00))"),
         Some("priority desc,index desc"),
         0,
         Some(10),
         &[7, 4, 34, 22, 25],
     ),
-    ListingRow(
+    (
         Some("due_date eq null"),
         Some("title desc"),
         1,
         Some(1),
         &[31],
     ),
-    ListingRow(
+    (
         Some("priority ne 'eva'"),
         Some("priority desc,index desc"),
         1,
         Some(999999999999999),
         &[7, 10, 4, 34, 22, 31, 37, 19, 13, 1, 25, 28, 40],
     ),
-    ListingRow(
+    (
         Some("index ge 0"),
         Some("description, description asc, title desc, due_date"),
         0,
         None,
         &[19, 37, 22, 10, 31, 4],
     ),
-    ListingRow(
+    (
         Some("index gt 0"),
         Some(" creation_author desc ,stage desc  "),
         0,
         Some(2),
         &[10, 22],
     ),
-    ListingRow(
+    (
         None,
         Some("creation_date"),
         0,
         None,
         &[10, 16, 4, 19, 31, 34, 1, 7, 13, 22, 25, 37, 40, 28],
     ),
-    ListingRow(
+    (
         Some(
             "not not not not not not not not not not not not not not not not not not not not not not not not not not not not not not not index eq 7",
         ),
@@ -299,42 +299,42 @@ pub static LISTINGS: [ListingRow; 60] = [
         Some(0),
         &[],
     ),
-    ListingRow(
+    (
         Some("creation_date ne null"),
         None,
         5,
         Some(999999999999999),
         &[16, 19, 22, 25, 28, 31, 34, 37, 40],
     ),
-    ListingRow(
+    (
         Some("(not stage lt 'é')"),
         Some("index,priority,creation_date desc,modified_author desc"),
         2,
         Some(1),
         &[25],
     ),
-    ListingRow(
+    (
         Some("creation_date eq 2024-05-01T12:00:00Z"),
         Some("topic_type desc,stage,topic_type asc,topic_type desc"),
         1,
         Some(14),
         &[7, 25, 1, 13, 22, 37],
     ),
-    ListingRow(
+    (
         Some("title le 'one'"),
         Some("topic_type desc"),
         5,
         Some(10),
         &[1, 13, 22, 34, 37],
     ),
-    ListingRow(
+    (
         Some("(description ne 'Clash')"),
         Some("creation_author desc,title desc,stage asc"),
         1,
         Some(14),
         &[10, 1, 37, 7, 22, 13, 31, 19, 4, 34, 28, 25, 40],
     ),
-    ListingRow(
+    (
         None,
         Some("priority asc,priority desc"),
         0,

@@ -62,19 +62,21 @@ fn body(alloc: Global, sample: &Sample) -> Result<TopicBody, AllocError> {
 }
 
 fn topic(alloc: Global, sample: &Sample) -> Result<Topic, AllocError> {
+    let created = author(alloc, sample.created.0, sample.created.1)?;
+    let modified = modified(alloc, sample)?;
     let body = body(alloc, sample)?;
     Ok(Topic {
         serial: sample.serial,
         body,
-        created: author(alloc, sample.created.0, sample.created.1)?,
-        modified: modified(alloc, sample)?,
+        created,
+        modified,
     })
 }
 
 /// The sample topics, by rising serial number.
 pub fn sample_topics(alloc: Global) -> Result<Vec<Topic>, AllocError> {
     let mut topics = Vec::new(alloc);
-    for sample in &SAMPLES {
+    for sample in SAMPLES.iter() {
         topics.push(topic(alloc, sample)?)?;
     }
     Ok(topics)

@@ -3,141 +3,134 @@ use crate::filter_rows::FILTERS;
 use crate::listing_rows::LISTINGS;
 use crate::long_rows::{LONG_FILTERS, LONG_ORDERS};
 use crate::order_rows::ORDERS;
+use crate::rows::{ListingRow, LongRow, Wanted};
 use crate::sample_topics::sample_topics;
-use crate::wanted::{ListingRow, LongRow, Wanted};
 use bcf_topics::Topic;
 use odata_filter::{Filter, FilterError, Listing, Order};
 use std::alloc::{AllocError, Global};
+use std::mem::drop;
 use std::process::Abort;
 use std::test::Fail;
+
+// Whether these places are those of the topics with these serial numbers.
+fn are_of(places: &[u32], topics: &[Topic], serials: &[u64]) -> bool {
+    for (place, serial) in places.iter().zip(serials) {
+        match topics.get(*place as usize) {
+            Some(topic) => {
+                if topic.serial != *serial {
+                    return false;
+                }
+            }
+            None => return false,
+        }
+    }
+    places.len() == serials.len()
+}
 
 // Whether a list has the topics of these serial numbers, in this order.
 fn lists(
     alloc: Global,
-    listing: &Listing,
+    listing: Listing,
     topics: &[Topic],
     serials: &[u64],
 ) -> Result<bool, AllocError> {
-    let places = listing.places(alloc, topics)?;
-    if places.len() != serials.len() {
-        return Ok(false);
-    }
-    for (place, serial) in places.iter().zip(serials.iter()) {
-        match topics.get(*place as usize) {
-            Some(topic) => {
-                if topic.serial != *serial {
-                    return Ok(false);
-                }
-            }
-            None => return Ok(false),
-        }
-    }
-    Ok(true)
+    let places = listing.places(alloc, topics);
+    drop(listing);
+    Ok(are_of(&places?, topics, serials))
 }
 
-// Whether what was read lists what is wanted, or is refused where that is wanted.
-fn is_filter_as_wanted(
+// Whether a listing that was read lists what is wanted, or is refused where that is wanted.
+fn is_as_wanted(
     alloc: Global,
-    text: &[u8],
+    read: Result<Listing, FilterError>,
     topics: &[Topic],
     wanted: Wanted,
 ) -> Result<bool, AllocError> {
-    match Filter::read(alloc, text) {
-        Ok(filter) => {
-            let listing = Listing {
-                filter: Some(filter),
-                order: None,
-                skip: 0,
-                top: None,
-            };
-            match wanted {
-                Wanted::Listed(serials) => lists(alloc, &listing, topics, serials),
-                Wanted::Refused(_) => Ok(false),
+    match read {
+        Ok(listing) => match wanted {
+            Ok(serials) => lists(alloc, listing, topics, serials),
+            Err(_) => {
+                drop(listing);
+                Ok(false)
             }
-        }
-        Err(FilterError::Bad { at }) => match wanted {
-            Wanted::Listed(_) => Ok(false),
-            Wanted::Refused(place) => Ok(at == place),
         },
+        Err(FilterError::Bad { at }) => Ok(wanted.err() == Some(at)),
         Err(FilterError::Memory) => Err(AllocError),
     }
 }
 
-fn is_order_as_wanted(
-    alloc: Global,
-    text: &[u8],
-    topics: &[Topic],
-    wanted: Wanted,
-) -> Result<bool, AllocError> {
-    match Order::read(alloc, text) {
-        Ok(order) => {
-            let listing = Listing {
-                filter: None,
-                order: Some(order),
-                skip: 0,
-                top: None,
-            };
-            match wanted {
-                Wanted::Listed(serials) => lists(alloc, &listing, topics, serials),
-                Wanted::Refused(_) => Ok(false),
-            }
+fn filtered(alloc: Global, text: &[u8]) -> Result<Listing, FilterError> {
+    let filter = Filter::read(alloc, text)?;
+    Ok(Listing {
+        filter: Some(filter),
+        order: None,
+        skip: 0,
+        top: None,
+    })
+}
+
+fn ordered(alloc: Global, text: &[u8]) -> Result<Listing, FilterError> {
+    let order = Order::read(alloc, text)?;
+    Ok(Listing {
+        filter: None,
+        order: Some(order),
+        skip: 0,
+        top: None,
+    })
+}
+
+// The first filter that isn't as wanted.
+fn wrong_filter(alloc: Global, topics: &[Topic]) -> Result<Option<&'static str>, AllocError> {
+    for (text, wanted) in FILTERS.iter() {
+        if !is_as_wanted(alloc, filtered(alloc, text.as_bytes()), topics, *wanted)? {
+            return Ok(Some(*text));
         }
-        Err(FilterError::Bad { at }) => match wanted {
-            Wanted::Listed(_) => Ok(false),
-            Wanted::Refused(place) => Ok(at == place),
-        },
-        Err(FilterError::Memory) => Err(AllocError),
     }
+    Ok(None)
 }
 
-#[test]
-fn filters_keep_what_they_say(rt: HostRuntime) -> Result<(), Fail> {
-    let alloc = rt.alloc();
-    let topics = sample_topics(alloc)?;
-    for row in &FILTERS {
-        let as_wanted = is_filter_as_wanted(alloc, row.0.as_bytes(), &topics, row.1)?;
-        assert!(rt; as_wanted, "{}", row.0);
+// The first order that isn't as wanted.
+fn wrong_order(alloc: Global, topics: &[Topic]) -> Result<Option<&'static str>, AllocError> {
+    for (text, wanted) in ORDERS.iter() {
+        if !is_as_wanted(alloc, ordered(alloc, text.as_bytes()), topics, *wanted)? {
+            return Ok(Some(*text));
+        }
     }
-    Ok(())
-}
-
-#[test]
-fn orders_order_as_they_say(rt: HostRuntime) -> Result<(), Fail> {
-    let alloc = rt.alloc();
-    let topics = sample_topics(alloc)?;
-    for row in &ORDERS {
-        let as_wanted = is_order_as_wanted(alloc, row.0.as_bytes(), &topics, row.1)?;
-        assert!(rt; as_wanted, "{}", row.0);
-    }
-    Ok(())
+    Ok(None)
 }
 
 // The text of a long row.
 fn long_text(alloc: Global, row: &LongRow) -> Result<Vec<u8>, AllocError> {
+    let (first, repeated, count, last, _) = *row;
     let mut text = Vec::new(alloc);
-    text.extend_from_slice(row.0.as_bytes())?;
-    for _ in 0..row.2 {
-        text.extend_from_slice(row.1.as_bytes())?;
+    text.extend_from_slice(first.as_bytes())?;
+    for _ in 0..count {
+        text.extend_from_slice(repeated.as_bytes())?;
     }
-    text.extend_from_slice(row.3.as_bytes())?;
+    text.extend_from_slice(last.as_bytes())?;
     Ok(text)
 }
 
-#[test]
-fn long_texts_are_read_up_to_their_bound(rt: HostRuntime) -> Result<(), Fail> {
-    let alloc = rt.alloc();
-    let topics = sample_topics(alloc)?;
-    for row in &LONG_FILTERS {
+// The first long filter that isn't as wanted.
+fn wrong_long_filter(alloc: Global, topics: &[Topic]) -> Result<Option<LongRow>, AllocError> {
+    for row in LONG_FILTERS.iter() {
         let text = long_text(alloc, row)?;
-        let as_wanted = is_filter_as_wanted(alloc, &text, &topics, row.4)?;
-        assert!(rt; as_wanted, "{} {} {}", row.0, row.2, row.3);
+        if !is_as_wanted(alloc, filtered(alloc, &text), topics, row.4)? {
+            return Ok(Some(*row));
+        }
     }
-    for row in &LONG_ORDERS {
+    Ok(None)
+}
+
+// The first long order that isn't as wanted.
+fn wrong_long_order(alloc: Global, topics: &[Topic]) -> Result<Option<LongRow>, AllocError> {
+    for row in LONG_ORDERS.iter() {
         let text = long_text(alloc, row)?;
-        let as_wanted = is_order_as_wanted(alloc, &text, &topics, row.4)?;
-        assert!(rt; as_wanted, "{} {} {}", row.0, row.2, row.3);
+        if !is_as_wanted(alloc, ordered(alloc, &text), topics, row.4)? {
+            return Ok(Some(*row));
+        }
     }
-    Ok(())
+    Ok(None)
 }
 
 fn filter_of(alloc: Global, text: Option<&str>) -> Result<Option<Filter>, FilterError> {
@@ -154,27 +147,68 @@ fn order_of(alloc: Global, text: Option<&str>) -> Result<Option<Order>, FilterEr
     }
 }
 
-fn is_listing_as_wanted(
-    alloc: Global,
-    row: &ListingRow,
-    topics: &[Topic],
-) -> Result<bool, FilterError> {
-    let listing = Listing {
-        filter: filter_of(alloc, row.0)?,
-        order: order_of(alloc, row.1)?,
+fn listing_of(alloc: Global, row: &ListingRow) -> Result<Listing, FilterError> {
+    let order = order_of(alloc, row.1)?;
+    let filter = filter_of(alloc, row.0)?;
+    Ok(Listing {
+        filter,
+        order,
         skip: row.2,
         top: row.3,
-    };
-    Ok(lists(alloc, &listing, topics, row.4)?)
+    })
+}
+
+// The first listing that isn't as wanted.
+fn wrong_listing(alloc: Global, topics: &[Topic]) -> Result<Option<ListingRow>, AllocError> {
+    for row in LISTINGS.iter() {
+        if !is_as_wanted(alloc, listing_of(alloc, row), topics, Ok(row.4))? {
+            return Ok(Some(*row));
+        }
+    }
+    Ok(None)
+}
+
+#[test]
+fn filters_keep_what_they_say(rt: HostRuntime) -> Result<(), Fail> {
+    let topics = sample_topics(rt.alloc())?;
+    let wrong = wrong_filter(rt.alloc(), &topics);
+    drop(topics);
+    assert_eq!(rt; wrong?, None);
+    Ok(())
+}
+
+#[test]
+fn orders_order_as_they_say(rt: HostRuntime) -> Result<(), Fail> {
+    let topics = sample_topics(rt.alloc())?;
+    let wrong = wrong_order(rt.alloc(), &topics);
+    drop(topics);
+    assert_eq!(rt; wrong?, None);
+    Ok(())
+}
+
+#[test]
+fn long_filters_are_read_up_to_their_bound(rt: HostRuntime) -> Result<(), Fail> {
+    let topics = sample_topics(rt.alloc())?;
+    let wrong = wrong_long_filter(rt.alloc(), &topics);
+    drop(topics);
+    assert_eq!(rt; wrong?, None);
+    Ok(())
+}
+
+#[test]
+fn long_orders_are_read_up_to_their_bound(rt: HostRuntime) -> Result<(), Fail> {
+    let topics = sample_topics(rt.alloc())?;
+    let wrong = wrong_long_order(rt.alloc(), &topics);
+    drop(topics);
+    assert_eq!(rt; wrong?, None);
+    Ok(())
 }
 
 #[test]
 fn lists_have_the_pages_that_are_asked_for(rt: HostRuntime) -> Result<(), Fail> {
-    let alloc = rt.alloc();
-    let topics = sample_topics(alloc)?;
-    for row in &LISTINGS {
-        let as_wanted = is_listing_as_wanted(alloc, row, &topics)?;
-        assert!(rt; as_wanted, "{:?} {:?} {} {:?}", row.0, row.1, row.2, row.3);
-    }
+    let topics = sample_topics(rt.alloc())?;
+    let wrong = wrong_listing(rt.alloc(), &topics);
+    drop(topics);
+    assert_eq!(rt; wrong?, None);
     Ok(())
 }

@@ -13,7 +13,7 @@ use Rattle.odata_filter.specs.declared.filter_state.Reading.{Reading}
 use Rattle.odata_filter.specs.declared.limits.TheConstants.{MOST_NESTED}
 use Rattle.odata_filter.specs.TopicMembers.{member_named}
 use Rattle.odata_filter.specs.Conditions.{Condition, Tested, Negated, Both, Either}
-use Rattle.odata_filter.specs.Lexemes.{Lexeme, Word, Quoted, Open, Close, Comma, Stray}
+use Rattle.odata_filter.specs.FilterLexemes.{Lexeme, Word, Quoted, Open, Close, Comma, Stray}
 use Rattle.odata_filter.specs.FilterGrammar.{comparison_named, literal_test, searched_named, search_test}
 
 -- nothing, within parentheses behind so many `not` and `(`

@@ -7,7 +7,7 @@ use Rattle.odata_filter.specs.declared.order_state.OrderExpected.TheVariants.{Na
 use Rattle.odata_filter.specs.declared.order_state.OrderReading.{OrderReading}
 use Rattle.odata_filter.specs.declared.limits.TheConstants.{MOST_ORDER_NAMES}
 use Rattle.odata_filter.specs.TopicMembers.{member_named}
-use Rattle.odata_filter.specs.Lexemes.{Lexeme, Word, Quoted, Open, Close, Comma, Stray}
+use Rattle.odata_filter.specs.FilterLexemes.{Lexeme, Word, Quoted, Open, Close, Comma, Stray}
 
 -- those members, where that comes next
 abbrev pub order_reading : OrderExpected → List OrderKey → OrderReading

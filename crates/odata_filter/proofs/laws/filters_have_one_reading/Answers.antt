@@ -1,5 +1,5 @@
 use Rattle.odata_filter.specs.FilterGrammar.{IsFilter}
-use Rattle.odata_filter.specs.Lexemes.{lexemes_of}
+use Rattle.odata_filter.specs.FilterLexemes.{lexemes_of}
 use Rattle.odata_filter.proofs.TokenReading.{means_one}
 use Rattle.odata_filter.proofs.FilterReadings.{reads_filters}
 use Rattle.odata_filter.proofs.OneReading.{one_reading}
