@@ -10,15 +10,15 @@ use Rattle.odata_filter.proofs.filter_reader.ended_at.Goals as goal
 
 -- a filter ends behind an operand alone
 elsewhere : (levels : Levels) (e : Expected) → (e ≡ Joint → ⊥) → None ≡ ended_at levels [] e
-elsewhere levels Operand no = refl
-elsewhere levels (Operator member) no = refl
-elsewhere levels (Literal member comparison) no = refl
-elsewhere levels SearchOpen no = refl
-elsewhere levels SearchMember no = refl
-elsewhere levels (SearchComma searched) no = refl
-elsewhere levels (SearchText searched) no = refl
-elsewhere levels (SearchClose test) no = refl
-elsewhere levels Joint no = absurd (no refl)
+elsewhere levels Operand other = refl
+elsewhere levels (Operator member) other = refl
+elsewhere levels (Literal member comparison) other = refl
+elsewhere levels SearchOpen other = refl
+elsewhere levels SearchMember other = refl
+elsewhere levels (SearchComma searched) other = refl
+elsewhere levels (SearchText searched) other = refl
+elsewhere levels (SearchClose test) other = refl
+elsewhere levels Joint other = absurd (other refl)
 
 pub returns-in-Joint : goal.returns-in-Joint
 returns-in-Joint c =
