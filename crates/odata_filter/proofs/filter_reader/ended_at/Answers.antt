@@ -1,4 +1,4 @@
-use Rattle.std.proofs.Common.{◌≡◌, List, [], Option, None, refl, sym, subst, arith}
+use Rattle.std.proofs.Common.{◌≡◌, List, [], None, refl, sym, subst, arith}
 use Rattle.std.specs.Prelude.{IfOk}
 use Rattle.std.proofs.lemmas.List.{nil_from_length}
 use Rattle.odata_filter.specs.declared.filter_state.Expected.{Expected}
