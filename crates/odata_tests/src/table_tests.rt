@@ -27,62 +27,66 @@ fn are_of(places: &[u32], topics: &[Topic], serials: &[u64]) -> bool {
     places.len() == serials.len()
 }
 
-// Whether a list has the topics of these serial numbers, in this order.
-fn lists(
-    alloc: Global,
-    listing: Listing,
-    topics: &[Topic],
-    serials: &[u64],
-) -> Result<bool, AllocError> {
-    let places = listing.places(alloc, topics);
-    drop(listing);
-    Ok(are_of(&places?, topics, serials))
-}
-
-// Whether a listing that was read lists what is wanted, or is refused where that is wanted.
-fn is_as_wanted(
-    alloc: Global,
-    read: Result<Listing, FilterError>,
-    topics: &[Topic],
-    wanted: Wanted,
-) -> Result<bool, AllocError> {
-    match read {
-        Ok(listing) => match wanted {
-            Ok(serials) => lists(alloc, listing, topics, serials),
-            Err(_) => {
-                drop(listing);
-                Ok(false)
-            }
-        },
-        Err(FilterError::Bad { at }) => Ok(wanted.err() == Some(at)),
-        Err(FilterError::Memory) => Err(AllocError),
+fn filter_of(alloc: Global, text: Option<&[u8]>) -> Result<Option<Filter>, FilterError> {
+    match text {
+        Some(text) => Ok(Some(Filter::read(alloc, text)?)),
+        None => Ok(None),
     }
 }
 
-fn filtered(alloc: Global, text: &[u8]) -> Result<Listing, FilterError> {
-    let filter = Filter::read(alloc, text)?;
-    Ok(Listing {
-        filter: Some(filter),
-        order: None,
-        skip: 0,
-        top: None,
-    })
+fn order_of(alloc: Global, text: Option<&[u8]>) -> Result<Option<Order>, FilterError> {
+    match text {
+        Some(text) => Ok(Some(Order::read(alloc, text)?)),
+        None => Ok(None),
+    }
 }
 
-fn ordered(alloc: Global, text: &[u8]) -> Result<Listing, FilterError> {
-    let order = Order::read(alloc, text)?;
-    Ok(Listing {
-        filter: None,
-        order: Some(order),
-        skip: 0,
-        top: None,
-    })
+// The places of the topics that the texts list.
+fn listed(
+    alloc: Global,
+    topics: &[Topic],
+    filter: Option<&[u8]>,
+    order: Option<&[u8]>,
+    skip: u64,
+    top: Option<u64>,
+) -> Result<Vec<u32>, FilterError> {
+    let order = order_of(alloc, order)?;
+    let filter = filter_of(alloc, filter)?;
+    let listing = Listing {
+        filter,
+        order,
+        skip,
+        top,
+    };
+    let places = listing.places(alloc, topics);
+    drop(listing);
+    Ok(places?)
+}
+
+// Whether the topics at these places are wanted, or a text is refused where that is wanted.
+fn is_as_wanted(
+    found: Result<Vec<u32>, FilterError>,
+    topics: &[Topic],
+    wanted: Wanted,
+) -> Result<bool, AllocError> {
+    match found {
+        Ok(places) => match wanted {
+            Ok(serials) => Ok(are_of(&places, topics, serials)),
+            Err(_) => Ok(false),
+        },
+        Err(FilterError::Bad { at }) => match wanted {
+            Ok(_) => Ok(false),
+            Err(place) => Ok(at == place),
+        },
+        Err(FilterError::Memory) => Err(AllocError),
+    }
 }
 
 // The first filter that isn't as wanted.
 fn wrong_filter(alloc: Global, topics: &[Topic]) -> Result<Option<&'static str>, AllocError> {
     for (text, wanted) in FILTERS.iter() {
-        if !is_as_wanted(alloc, filtered(alloc, text.as_bytes()), topics, *wanted)? {
+        let found = listed(alloc, topics, Some(text.as_bytes()), None, 0, None);
+        if !is_as_wanted(found, topics, *wanted)? {
             return Ok(Some(*text));
         }
     }
@@ -92,7 +96,8 @@ fn wrong_filter(alloc: Global, topics: &[Topic]) -> Result<Option<&'static str>,
 // The first order that isn't as wanted.
 fn wrong_order(alloc: Global, topics: &[Topic]) -> Result<Option<&'static str>, AllocError> {
     for (text, wanted) in ORDERS.iter() {
-        if !is_as_wanted(alloc, ordered(alloc, text.as_bytes()), topics, *wanted)? {
+        let found = listed(alloc, topics, None, Some(text.as_bytes()), 0, None);
+        if !is_as_wanted(found, topics, *wanted)? {
             return Ok(Some(*text));
         }
     }
@@ -115,7 +120,8 @@ fn long_text(alloc: Global, row: &LongRow) -> Result<Vec<u8>, AllocError> {
 fn wrong_long_filter(alloc: Global, topics: &[Topic]) -> Result<Option<LongRow>, AllocError> {
     for row in LONG_FILTERS.iter() {
         let text = long_text(alloc, row)?;
-        if !is_as_wanted(alloc, filtered(alloc, &text), topics, row.4)? {
+        let found = listed(alloc, topics, Some(text.as_slice()), None, 0, None);
+        if !is_as_wanted(found, topics, row.4)? {
             return Ok(Some(*row));
         }
     }
@@ -126,42 +132,33 @@ fn wrong_long_filter(alloc: Global, topics: &[Topic]) -> Result<Option<LongRow>,
 fn wrong_long_order(alloc: Global, topics: &[Topic]) -> Result<Option<LongRow>, AllocError> {
     for row in LONG_ORDERS.iter() {
         let text = long_text(alloc, row)?;
-        if !is_as_wanted(alloc, ordered(alloc, &text), topics, row.4)? {
+        let found = listed(alloc, topics, None, Some(text.as_slice()), 0, None);
+        if !is_as_wanted(found, topics, row.4)? {
             return Ok(Some(*row));
         }
     }
     Ok(None)
 }
 
-fn filter_of(alloc: Global, text: Option<&str>) -> Result<Option<Filter>, FilterError> {
+fn bytes_of<'t>(text: Option<&'t str>) -> Option<&'t [u8]> {
     match text {
-        Some(text) => Ok(Some(Filter::read(alloc, text.as_bytes())?)),
-        None => Ok(None),
+        Some(text) => Some(text.as_bytes()),
+        None => None,
     }
-}
-
-fn order_of(alloc: Global, text: Option<&str>) -> Result<Option<Order>, FilterError> {
-    match text {
-        Some(text) => Ok(Some(Order::read(alloc, text.as_bytes())?)),
-        None => Ok(None),
-    }
-}
-
-fn listing_of(alloc: Global, row: &ListingRow) -> Result<Listing, FilterError> {
-    let order = order_of(alloc, row.1)?;
-    let filter = filter_of(alloc, row.0)?;
-    Ok(Listing {
-        filter,
-        order,
-        skip: row.2,
-        top: row.3,
-    })
 }
 
 // The first listing that isn't as wanted.
 fn wrong_listing(alloc: Global, topics: &[Topic]) -> Result<Option<ListingRow>, AllocError> {
     for row in LISTINGS.iter() {
-        if !is_as_wanted(alloc, listing_of(alloc, row), topics, Ok(row.4))? {
+        let found = listed(
+            alloc,
+            topics,
+            bytes_of(row.0),
+            bytes_of(row.1),
+            row.2,
+            row.3,
+        );
+        if !is_as_wanted(found, topics, Ok(row.4))? {
             return Ok(Some(*row));
         }
     }
