@@ -1,10 +1,15 @@
 //! The tables of filters, orders and lists.
-use crate::filter_rows::FILTERS;
+use crate::joined_rows::JOINED_FILTERS;
 use crate::listing_rows::LISTINGS;
 use crate::long_rows::{LONG_FILTERS, LONG_ORDERS};
+use crate::number_rows::NUMBER_FILTERS;
 use crate::order_rows::ORDERS;
+use crate::refused_joined_rows::REFUSED_JOINED;
+use crate::refused_number_rows::REFUSED_NUMBERS;
+use crate::refused_rows::REFUSED_FILTERS;
 use crate::sample_topics::sample_topics;
-use crate::table_rows::{ListingRow, LongRow, Wanted};
+use crate::table_rows::{ListingRow, LongRow, Row, Wanted};
+use crate::text_rows::TEXT_FILTERS;
 use bcf_topics::Topic;
 use odata_filter::{Filter, FilterError, Listing, Order};
 use std::alloc::{AllocError, Global};
@@ -82,15 +87,27 @@ fn is_as_wanted(
     }
 }
 
-// The first filter that isn't as wanted.
-fn wrong_filter(alloc: Global, topics: &[Topic]) -> Result<Option<&'static str>, AllocError> {
-    for (text, wanted) in FILTERS.iter() {
+// The first filter of a table that isn't as wanted.
+fn wrong_filter(
+    alloc: Global,
+    topics: &[Topic],
+    rows: &[Row],
+) -> Result<Option<&'static str>, AllocError> {
+    for (text, wanted) in rows {
         let found = listed(alloc, topics, Some(text.as_bytes()), None, 0, None);
         if !is_as_wanted(found, topics, *wanted)? {
             return Ok(Some(*text));
         }
     }
     Ok(None)
+}
+
+fn filters_are_as_wanted(rt: &HostRuntime, rows: &[Row]) -> Result<(), Fail> {
+    let topics = sample_topics(rt.alloc())?;
+    let wrong = wrong_filter(rt.alloc(), &topics, rows);
+    drop(topics);
+    assert_eq!(rt; wrong?, None);
+    Ok(())
 }
 
 // The first order that isn't as wanted.
@@ -166,12 +183,33 @@ fn wrong_listing(alloc: Global, topics: &[Topic]) -> Result<Option<ListingRow>, 
 }
 
 #[test]
-fn filters_keep_what_they_say(rt: HostRuntime) -> Result<(), Fail> {
-    let topics = sample_topics(rt.alloc())?;
-    let wrong = wrong_filter(rt.alloc(), &topics);
-    drop(topics);
-    assert_eq!(rt; wrong?, None);
-    Ok(())
+fn filters_by_texts_keep_what_they_say(rt: HostRuntime) -> Result<(), Fail> {
+    filters_are_as_wanted(&rt, &TEXT_FILTERS)
+}
+
+#[test]
+fn filters_by_numbers_and_dates_keep_what_they_say(rt: HostRuntime) -> Result<(), Fail> {
+    filters_are_as_wanted(&rt, &NUMBER_FILTERS)
+}
+
+#[test]
+fn joined_filters_keep_what_they_say(rt: HostRuntime) -> Result<(), Fail> {
+    filters_are_as_wanted(&rt, &JOINED_FILTERS)
+}
+
+#[test]
+fn texts_that_are_no_filters_are_refused(rt: HostRuntime) -> Result<(), Fail> {
+    filters_are_as_wanted(&rt, &REFUSED_FILTERS)
+}
+
+#[test]
+fn numbers_and_dates_that_are_none_are_refused(rt: HostRuntime) -> Result<(), Fail> {
+    filters_are_as_wanted(&rt, &REFUSED_NUMBERS)
+}
+
+#[test]
+fn joined_filters_that_are_none_are_refused(rt: HostRuntime) -> Result<(), Fail> {
+    filters_are_as_wanted(&rt, &REFUSED_JOINED)
 }
 
 #[test]
