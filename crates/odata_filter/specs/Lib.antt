@@ -1,0 +1,13 @@
+pub mod TopicMembers
+pub mod Conditions
+pub mod ConditionCodes
+pub mod FilterTrees
+pub mod FilterTokens
+pub mod FilterLiterals
+pub mod FilterLexemes
+pub mod FilterGrammar
+pub mod OrderGrammar
+pub mod Readings
+pub mod TopicOrders
+pub mod Listings
+pub mod inner

@@ -1,0 +1,3 @@
+pub mod FilterSteps
+pub mod OrderSteps
+pub mod PageFronts
