@@ -28,8 +28,8 @@ PROGRAM ?= $(SERVER)
 BESIDE := convert client api deploy viewer
 DIRECTORY_OF_api := api_check
 
-# The rows of tests/serve that the gate runs: all but the slow ones and those that cases have too.
-SERVE_ROWS := pipelined interleaved clashes curl cut refused_at_once end_by_links end_by_signal \
+# The rows of tests/serve that the gate runs: all but those that take long.
+SERVE_ROWS := words pipelined interleaved clashes curl slow cut refused_at_once end_by_links end_by_signal \
 	umlauts dates sources idle turns workers pages crowds
 
 .PHONY: try build replay serve check lint tests hostile cases crate program

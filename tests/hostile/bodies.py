@@ -94,20 +94,29 @@ def wait_for_refusal(server: Server) -> int:
     return most
 
 
+def wait_for_left(client: Client, wanted: int, patience: float = 60) -> None:
+    """Waits until so many buckets of the second version are left to be checked."""
+    end = time.monotonic() + patience
+    while True:
+        found = client.ask("GET", f"{VERSIONS}/2/clashes")
+        expect(found.status == 202, "the clashes are there")
+        if json.loads(found.reply)["left"] == wanted:
+            return
+        expect(time.monotonic() < end, f"{found.reply[:80]!r}")
+        time.sleep(0.05)
+
+
 def refused_work(flood: Flood, lanes: int) -> int:
     """A version with more pairs than memory lasts stays to be checked, and the worker goes on with
-    versions after it. The most that the server took."""
+    its other bucket and with versions after it. The most that the server took."""
     with Server(flood.program, lanes=lanes, space=112 * MIB) as server:
         with Client(server) as client:
             client.ask("PUT", f"{coord_of()}/rules", RULES[1])
-            heap = small_pipes(
-                *((10 + 10 * n, f"{n:022}", "p", (1500, 1500, 1500)) for n in range(3000))
-            )
+            places = [(1500, 1500, 1500)] * 3000 + [(101_500, 1500, 1500)] * 2
+            heap = small_pipes(*((10 + 10 * n, f"{n:022}", "p", it) for n, it in enumerate(places)))
             expect(client.ask("PUT", f"{MODELS}/b", heap).status == 201, "no version")
             most = wait_for_refusal(server)
-            expect(
-                client.ask("GET", f"{VERSIONS}/2/clashes").status == 202, "the clashes are there"
-            )
+            wait_for_left(client, 1)
             client.ask("DELETE", f"{MODELS}/b")
             client.ask("PUT", f"{MODELS}/c", small_pipes(*oracle.BLOCKS[1]))
             found = wait_for_clashes(client, 4, pause=0.02)

@@ -149,7 +149,7 @@ FILES = [
     Shape("20,000 pipes at a chain of 20,000", 5, lambda: upload(chain(20_000, 20_000))),
     Shape("60,000 walls that share a shape", 4, lambda: upload(walls(60_000))),
     Shape("20,000 walls whose identifiers share a slot", 6, lambda: upload(one_slot(20_000))),
-    Shape("20,000 walls in a storey", 5, lambda: upload(shared_storey(20_000, 10))),
+    Shape("20,000 walls in a storey", 3.5, lambda: upload(shared_storey(20_000, 10))),
     Shape(
         "5,000 walls in a storey whose name has 100,000 bytes",
         6,

@@ -32,8 +32,7 @@ def bound_by(watch: Watch, words: list[str]) -> list[list[str]]:
             time.sleep(0.01)
         time.sleep(0.1)
         found = notes.lines("bind")
-        expect(run.poll() is None, f"{words}: the server ended with {run.returncode}")
-        run.kill()
+        run.kill()  # which may have ended: not every machine has an address of IPv6
     return found
 
 

@@ -10,7 +10,7 @@ from tests.support.client import Client
 from tests.support.http import coord_of, rules
 from tests.support.server import Server
 
-PATIENCE = 300
+PATIENCE = 100
 COORD = coord_of()
 MODEL = f"{COORD}/models/m"
 
