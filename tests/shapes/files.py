@@ -165,7 +165,7 @@ FILES = [
     Shape("a comb, listed 20 times", 700, lambda: upload(polygons(comb(), 1, 20))),
     Shape("a winding strip, listed 20 times", 300, lambda: upload(polygons(strip(), 1, 20))),
     Shape("a convex face, listed 200 times", 150, lambda: upload(polygons(convex(), 1, 200))),
-    Shape("a comb, shared by 900 pipes", 45, lambda: upload(polygons(comb(), 1, 1, 900))),
+    Shape("a comb, shared by 900 pipes", 150, lambda: upload(polygons(comb(), 1, 1, 900))),
     Shape("1,000 sets over a list of 50,000 points", 4, lambda: upload(sharing(1000, 50_000))),
     Shape(
         "1,000 sets over a list of 50,000 points, refused",
@@ -175,7 +175,7 @@ FILES = [
     ),
     Shape(
         "a face listed 50 times by each of 200 sets, refused",
-        230,
+        400,
         lambda: upload(faces_of_sets(200)),
         REFUSED,
     ),
@@ -190,7 +190,7 @@ FILES = [
     Shape("a part of a part, 30,000 deep", 3, lambda: upload(parts(30_000))),
     Shape(
         "a zero of 100,000 digits, read 500 times",
-        150,
+        400,
         lambda: upload(mapped(500, "0" * 100_000 + ".")),
     ),
     Shape(
@@ -211,8 +211,8 @@ CLASHES = [
     Shape("600 pipes at one place", 60, lambda: clashes(placed(600, 100, 0))),
     Shape("1,500 pipes apart in a few cells", 6, lambda: clashes(placed(1500, 10, 200, 12))),
     Shape("a heap of 600 boxes", 30, lambda: clashes(heap(600))),
-    Shape("20 sheets of 1,000 triangles", 250, lambda: clashes(sheets(20))),
-    Shape("20 slanted plates of 500 triangles", 26, lambda: clashes(ramps(20))),
+    Shape("20 sheets of 1,000 triangles", 600, lambda: clashes(sheets(20))),
+    Shape("20 slanted plates of 500 triangles", 90, lambda: clashes(ramps(20))),
     Shape(
         "300 pipes, by the last of 200 rules",
         200,
@@ -222,7 +222,7 @@ CLASHES = [
     ),
     Shape(
         "60 pipes in storeys of 10,000 bytes",
-        450,
+        1000,
         lambda: clashes(
             two_storeys(60, 10_000),
             many_rules(b'{"a":"*","b":"*","distance":0,"storey":"different"},'),
