@@ -102,9 +102,9 @@ fn wrong_filter(
     Ok(None)
 }
 
-fn filters_are_as_wanted(rt: &HostRuntime, rows: &[Row]) -> Result<(), Fail> {
-    let topics = sample_topics(rt.alloc())?;
-    let wrong = wrong_filter(rt.alloc(), &topics, rows);
+fn filters_are_as_wanted(rt: &impl Abort, alloc: Global, rows: &[Row]) -> Result<(), Fail> {
+    let topics = sample_topics(alloc)?;
+    let wrong = wrong_filter(alloc, &topics, rows);
     drop(topics);
     assert_eq!(rt; wrong?, None);
     Ok(())
@@ -184,32 +184,32 @@ fn wrong_listing(alloc: Global, topics: &[Topic]) -> Result<Option<ListingRow>, 
 
 #[test]
 fn filters_by_texts_keep_what_they_say(rt: HostRuntime) -> Result<(), Fail> {
-    filters_are_as_wanted(&rt, &TEXT_FILTERS)
+    filters_are_as_wanted(&rt, rt.alloc(), &TEXT_FILTERS)
 }
 
 #[test]
 fn filters_by_numbers_and_dates_keep_what_they_say(rt: HostRuntime) -> Result<(), Fail> {
-    filters_are_as_wanted(&rt, &NUMBER_FILTERS)
+    filters_are_as_wanted(&rt, rt.alloc(), &NUMBER_FILTERS)
 }
 
 #[test]
 fn joined_filters_keep_what_they_say(rt: HostRuntime) -> Result<(), Fail> {
-    filters_are_as_wanted(&rt, &JOINED_FILTERS)
+    filters_are_as_wanted(&rt, rt.alloc(), &JOINED_FILTERS)
 }
 
 #[test]
 fn texts_that_are_no_filters_are_refused(rt: HostRuntime) -> Result<(), Fail> {
-    filters_are_as_wanted(&rt, &REFUSED_FILTERS)
+    filters_are_as_wanted(&rt, rt.alloc(), &REFUSED_FILTERS)
 }
 
 #[test]
 fn numbers_and_dates_that_are_none_are_refused(rt: HostRuntime) -> Result<(), Fail> {
-    filters_are_as_wanted(&rt, &REFUSED_NUMBERS)
+    filters_are_as_wanted(&rt, rt.alloc(), &REFUSED_NUMBERS)
 }
 
 #[test]
 fn joined_filters_that_are_none_are_refused(rt: HostRuntime) -> Result<(), Fail> {
-    filters_are_as_wanted(&rt, &REFUSED_JOINED)
+    filters_are_as_wanted(&rt, rt.alloc(), &REFUSED_JOINED)
 }
 
 #[test]
