@@ -11,7 +11,7 @@ import sys
 import tempfile
 from collections.abc import Callable
 
-from bench.timing import of_children, request
+from bench.timing import of_children
 from tests.failing.tool import Tool
 from tests.hostile.heads import head_of
 from tests.ifc.basics import file_of
@@ -28,28 +28,11 @@ from tests.ifc.crowds import (
     two_storeys,
 )
 from tests.ifc.polygons import comb, convex, polygons, strip
+from tests.shapes.files import clashes, many_rules, topic, upload
 from tests.support.checks import arguments
-from tests.support.http import coord_of, rules, topics_of
 from tests.support.programs import built
 
 ALL_BUCKETS = 1_000_000
-
-
-def upload(file: bytes) -> bytes:
-    return request("PUT", f"{coord_of()}/models/m", file)
-
-
-def topic(body: bytes) -> bytes:
-    return request("POST", topics_of(), body)
-
-
-def clashes(file: bytes, body: bytes = rules(0)) -> bytes:
-    return request("PUT", f"{coord_of()}/rules", body) + upload(file)
-
-
-def many_rules(first: bytes, count: int = 200) -> bytes:
-    """So many rules, of which the last fits any two elements and those before don't fit ours."""
-    return b'{"rules":[' + first * (count - 1) + rules(0)[10:]
 
 
 def nested_lists(number: int) -> str:
