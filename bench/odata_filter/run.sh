@@ -10,19 +10,8 @@ set -e
 top=$(cd "$(dirname "$0")/../.." && pwd)
 work=$(mktemp -d)
 trap 'rm -rf "$work"' EXIT
-mkdir -p "$work/crates/pace/src"
-for name in $(python3 "$top/bench/stands_on.py" --names odata_filter); do
-    mkdir -p "$work/crates/$name/out"
-    for part in src specs proofs out/rlib; do
-        if [ -d "$top/crates/$name/$part" ]; then
-            cp -r "$top/crates/$name/$part" "$work/crates/$name/$part"
-        fi
-    done
-done
-cp "$top/bench/odata_filter/pace.txt" "$work/crates/pace/src/main.rt"
-{ python3 "$top/bench/stands_on.py" odata_filter; echo 'pace: odata_filter bcf_topics bim_model'; } > "$work/crates.txt"
-git -C "$work" init -q
-(cd "$work/crates/pace" && rt run > "$work/first.log" 2>&1) || { tail -60 "$work/first.log"; exit 1; }
+. "$top/bench/pace.sh"
+build_pace odata_filter odata_filter "odata_filter bcf_topics bim_model"
 for _ in 1 2 3; do
     "$work/crates/pace/out/pace"
 done | awk '
