@@ -202,7 +202,7 @@ def main() -> int:
     words.add_argument("--program", type=pathlib.Path, help="the program, if it is built already")
     words.add_argument("--turns", metavar="N", type=int, default=8)
     words.add_argument("--rounds", metavar="N", type=int, default=9)
-    words.add_argument("--distances", default="0,50,pierce")
+    words.add_argument("--distances", default="0,50")
     given = words.parse_args()
     with tempfile.TemporaryDirectory() as scratch:
         work = pathlib.Path(scratch)
