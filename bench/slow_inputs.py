@@ -32,6 +32,7 @@ from tests.support.http import coord_of, rules, topics_of
 from tests.support.programs import built
 
 ALL_BUCKETS = 1_000_000
+PIERCING = b'{"rules":[{"a":"*","b":"*","kind":"pierce"}]}'
 
 
 def upload(file: bytes) -> bytes:
@@ -116,6 +117,7 @@ INPUTS: dict[str, Callable[[], bytes]] = {
     ),
     "clashes of 50 sheets of 1,000 triangles": lambda: clashes(sheets(50)),
     "clashes of 100 sheets of 1,000 triangles": lambda: clashes(sheets(100)),
+    "clashes of 100 such sheets, by a pierce rule": lambda: clashes(sheets(100), PIERCING),
 }
 
 

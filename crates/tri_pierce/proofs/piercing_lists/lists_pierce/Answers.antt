@@ -49,11 +49,11 @@ run_pierces-requires-clause-run_in c = subst (All IsInGrid) (sym c.split_run.ens
 
 pub run_pierces-requires-clause-some : goal.run_pierces-requires-clause-some
 run_pierces-requires-clause-some c =
-    some_front _ (length c.loop-rest.rest.now) (ap length c.split_run.ensures.front ∙ length-take 16 c.loop-rest.rest.now) (some_item c.loop-rest.rest.now (sym c.is_empty-2.ensures ∙ c.loop-rest-test.true))
+    some_front _ (length c.loop-rest.rest.now) (ap length c.split_run.ensures.front ∙ length-take 16 c.loop-rest.rest.now) (some_item c.loop-rest.rest.now (sym c.is_empty-in-loop-rest.ensures ∙ c.loop-rest-test.true))
 
 pub loop-rest-smaller : goal.loop-rest-smaller
 loop-rest-smaller c =
-    fewer_left (length c.loop-rest.rest.now) _ 16 (ap length c.split_run.ensures.behind ∙ length-drop 16 c.loop-rest.rest.now) (omega arith) (sym c.is_empty-2.ensures ∙ c.loop-rest-test.true)
+    fewer_left (length c.loop-rest.rest.now) _ 16 (ap length c.split_run.ensures.behind ∙ length-drop 16 c.loop-rest.rest.now) (omega arith) (sym c.is_empty-in-loop-rest.ensures ∙ c.loop-rest-test.true)
 
 found : (c : goal.Then-run_pierces) → IsTrue true ↔ ListsPierce c.args.ps.now c.args.qs.now
 found c = (
@@ -79,7 +79,7 @@ missed : (c : goal.After-loop-rest) → IsTrue false ↔ ListsPierce c.args.ps.n
 missed c = (
   λ x. absurd (cc x),
   λ x. absurd (left_none (λ (ts : List Triangle). ListsPierce ts c.args.qs.now) (parts c.args.qs.now) c.args.ps.now c.loop-rest.rest.now
-      (empty_list c.loop-rest.rest.now (no_item c.loop-rest.rest.now (sym c.is_empty-2.ensures ∙ c.loop-rest-test.false))) c.loop-rest.invariant.1 x),
+      (empty_list c.loop-rest.rest.now (no_item c.loop-rest.rest.now (sym c.is_empty-in-loop-rest.ensures ∙ c.loop-rest-test.false))) c.loop-rest.invariant.1 x),
 )
 
 pub returns-clause-pierce : goal.returns-clause-pierce
