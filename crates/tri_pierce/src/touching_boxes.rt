@@ -104,7 +104,8 @@ pub fn are_beside(p: &Triangle, q: &Triangle) -> bool
 pub fn are_apart(own: Extent, around: Extent) -> bool
     requires own_in { IsExtent own }
     requires around_in { IsExtent around }
-    ensures { IsTrue result → (p q : Triangle) → InExtent own (shape_of p) → InExtent around (shape_of q) → Pierces p q → ⊥ }
+    ensures { IsTrue result → (p q : Triangle) → InExtent own (shape_of p)
+        → InExtent around (shape_of q) → Pierces p q → ⊥ }
 {
     let (l, h) = (own.low, own.high);
     let (low, high) = (around.low, around.high);
