@@ -25,6 +25,7 @@ BAD_BODIES: dict[str, list[tuple[str, Any]]] = {
     ],
     "Rules": [
         ("C1", {}),
+        ("C1", {"rules": [{"a": "*", "b": "*", "kind": "pierce", "distance": 5}]}),
         ("C2", {"rules": RULES["rules"] * 201}),
         ("C3", {"rules": [{"a": "*", "b": "*", "distance": 1001}]}),
     ],

@@ -33,6 +33,7 @@ from tests.support.checks import arguments
 from tests.support.programs import built
 
 ALL_BUCKETS = 1_000_000
+PIERCING = b'{"rules":[{"a":"*","b":"*","kind":"pierce"}]}'
 
 
 def nested_lists(number: int) -> str:
@@ -103,6 +104,7 @@ INPUTS: dict[str, Callable[[], bytes]] = {
     "12 plates as wide as a model may be": lambda: upload(
         plates(*range(-798_000, 660_000, 132_000))
     ),
+    "clashes of 100 such sheets, by a pierce rule": lambda: clashes(sheets(100), PIERCING),
 }
 
 

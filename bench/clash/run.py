@@ -2,12 +2,14 @@
 milliseconds.
 
     python3 -m bench.clash.run FILE.ifc .. [--baseline BASELINE] [--turns N] [--rounds N]
-                               [--distances 0,50]
+                               [--distances 0,50,pierce]
     python3 -m bench.clash.run --carry FILE.ifc .. [--rounds N] [--distances 0,50]
 
 Each FILE has elements with triangulated surfaces in millimetres (IFCCARTESIANPOINTLIST3D,
 IFCTRIANGULATEDFACESET), as `bim_server generate --count 1000 --number 7 --file` writes them. The
-numbers are written into a plain file for pace.txt, the program over the built crates. BASELINE is
+numbers are written into a plain file for pace.txt, the program over the built crates. A distance of
+the one rule is in millimetres; `pierce` stands for a rule that asks for piercing, for which no
+baseline is run. BASELINE is
 another program, called as `BASELINE FILE.ifc DISTANCE --reps N`; it prints `clashes N`, and its
 seconds as `clash_s T [grid T filter T near T]`. Copies the crates, with what earlier checks kept of
 them, into a scratch folder, adds the program, builds it proved (`rt run`), and runs both by turns:
@@ -44,6 +46,7 @@ BELOW = [
     "bim_model",
     "tri_exact",
     "clearance",
+    "tri_pierce",
     "box_lanes",
     "clash_rules",
     "bucket_grid",
@@ -111,11 +114,12 @@ def least_of(before: list[float], times: list[float]) -> list[float]:
 
 
 class Least:
-    """The least times on a file at a distance, in milliseconds: of the baseline whole, grid,
-    filter, exact, of the program whole, grid, filter, check; and the number of clashes."""
+    """The least times on a file at a distance or under a pierce rule, in milliseconds: of the
+    baseline whole, grid, filter, exact, of the program whole, grid, filter, check; and the number
+    of clashes."""
 
-    def __init__(self, file: pathlib.Path, scene: pathlib.Path, distance: int, rounds: int) -> None:
-        self.file, self.scene, self.distance, self.rounds = file, scene, str(distance), str(rounds)
+    def __init__(self, file: pathlib.Path, scene: pathlib.Path, distance: str, rounds: int) -> None:
+        self.file, self.scene, self.distance, self.rounds = file, scene, distance, str(rounds)
         self.plain, self.here, self.found = [FOR_EVER] * 4, [FOR_EVER] * 4, 0
 
     def turn(self, program: pathlib.Path, baseline: str | None) -> None:
@@ -123,7 +127,7 @@ class Least:
         self.found, times = ran([str(program), str(self.scene), self.distance, self.rounds], HERE)
         grid, filtered, check, whole = times
         self.here = least_of(self.here, [time / 1e6 for time in (whole, grid, filtered, check)])
-        if baseline is None:
+        if baseline is None or self.distance == "pierce":
             return
         words = [baseline, str(self.file), self.distance, "--reps", self.rounds, "--lex", "0"]
         there, times = ran(words, PLAIN)
@@ -170,7 +174,7 @@ def time_checks(
         Least(
             file,
             work / f"{file.name}.scene",
-            int(distance),
+            distance,
             given.rounds * largest // file.stat().st_size,
         )
         for distance in given.distances.split(",")

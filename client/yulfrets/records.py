@@ -59,11 +59,11 @@ class End(TypedDict):
 
 
 class Clash(TypedDict):
-    """A pair of elements that comes within the distance of a rule."""
+    """A pair of elements that comes within the distance of a rule, or pierces under one without."""
 
     a: End
     b: End
-    distance: int
+    distance: NotRequired[int]
     rule: int
 
 

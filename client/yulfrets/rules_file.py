@@ -12,11 +12,14 @@ from .records import Rule, Version
 
 MOST_RULES, MOST_DISTANCE, MOST_LEVEL = 200, 1000, 256
 WORDS = {
-    "kind": ("clash", "ignore"),
+    "kind": ("clash", "pierce", "ignore"),
     "storey": ("any", "same", "different"),
     "models": ("any", "same", "other"),
 }
-SHAPE = "a rule has a, b and distance, and kind, storey, level and models where they are wanted"
+SHAPE = (
+    "a rule has a, b and distance, and kind, storey, level and models where they are wanted; "
+    "a pierce rule has no distance"
+)
 MEMBERS = {"a", "b", "kind", "distance", "storey", "level", "models"}
 
 
@@ -41,11 +44,12 @@ def fault_of_rule(rule: dict[str, Any]) -> tuple[str, str] | None:
 
 
 def fault_of_distance(given: dict[str, Any]) -> tuple[str, str] | None:
-    """The fault of a rule's distance; an ignoring rule needs none."""
-    distance = given.get("distance")
+    """The fault of a rule's distance; an ignoring rule needs none, and a pierce rule has none."""
+    distance, kind = given.get("distance"), given.get("kind", "clash")
     if distance is None:
-        missing = given.get("kind", "clash") == "clash"
-        return ("C1", "distance is missing") if missing else None
+        return ("C1", "distance is missing") if kind == "clash" else None
+    if kind == "pierce":
+        return "C1", "a pierce rule has no distance"
     if isinstance(distance, bool) or not isinstance(distance, int):
         return "C1", "distance is a whole number of millimetres"
     if not 0 <= distance <= MOST_DISTANCE:

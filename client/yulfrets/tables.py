@@ -79,7 +79,7 @@ def clash_json(clash: Clash, elements: Elements) -> dict[str, Any]:
         "a": end_json(clash["a"], elements),
         "b": end_json(clash["b"], elements),
         "rule": clash["rule"],
-        "distance": clash["distance"],
+        "distance": clash.get("distance"),
     }
 
 
@@ -89,7 +89,7 @@ def clash_rows(
     """A row for each clash, with its place among all of its version."""
     rows: list[list[Cell]] = []
     for clash, place in zip(clashes, places, strict=True):
-        row: list[Cell] = [place, clash["rule"], clash["distance"]]
+        row: list[Cell] = [place, clash["rule"], clash.get("distance")]
         for end in (clash["a"], clash["b"]):
             shown = end_json(end, elements)
             row += [shown[member] for member in ("model", "class", "name", "storey", "guid")]
@@ -111,6 +111,8 @@ def rule_words(number: int, rules: Sequence[Rule]) -> str:
     words = f"{number}: {rule['a']} and {rule['b']}"
     if "distance" in rule:
         words += f", {rule['distance']} mm"
+    if rule["kind"] == "pierce":
+        words += ", piercing"
     if rule["storey"] != "any":
         words += f", {rule['storey']} storey"
     if rule["level"] is not None:

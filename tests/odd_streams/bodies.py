@@ -50,6 +50,7 @@ def value_of(chance: Random) -> str:
             '{"visibility":{"default_visibility":' + shown + ',"exceptions":' + exceptions + "}}",
             '[{"a":"*","b":"*","distance":' + number_of(chance) + "}]",
             '[{"a":"*","b":"' + "A" * chance.choice([64, 65]) + '","distance":1}]',
+            '[{"a":"*","b":"*","kind":"pierce","distance":' + chance.choice(["null", "0"]) + "}]",
             "["
             + ",".join(['{"a":"*","b":"*","kind":"ignore"}'] * chance.choice([0, 200, 201]))
             + "]",

@@ -208,11 +208,11 @@ def is_rule(item: Tree) -> bool:
     sides = (item.get(side) for side in "ab")
     return (
         all(isinstance(side, str) and re.fullmatch(r"\*|[A-Z0-9_]{1,64}", side) for side in sides)
-        and kind in ("clash", "ignore")
+        and kind in ("clash", "pierce", "ignore")
         and item.get("storey", "any") in ("any", "same", "different")
         and item.get("models", "any") in ("any", "same", "other")
         and (level is None or is_text(level, 256))
-        and (distance is not None or kind == "ignore")
+        and (kind == "ignore" or (distance is not None) == (kind == "clash"))
         and is_distance(distance)
     )
 

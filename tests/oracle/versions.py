@@ -7,6 +7,7 @@ from tests.oracle.faults import Tree
 from tests.oracle.model_file import Element
 from tests.oracle.model_file.lengths import PER_MM
 from tests.oracle.nearness import boxes_within, elements_near
+from tests.oracle.piercing import elements_pierce
 
 CELL, GROWTH = 4000 * PER_MM, 1000 * PER_MM
 MOST_ELEMENTS, MOST_MEMBERSHIPS = 100000, 2000000
@@ -79,12 +80,18 @@ class Version:
         (m, a), (n, b) = one, other
         fitting = ((k, it) for k, it in enumerate(self.rules) if fits(it, a, b, m == n))
         number, rule = next(fitting, (0, None))
-        if rule is None or rule["kind"] != "clash":
-            return []
-        if not elements_near(a, b, rule["distance"] * PER_MM):
+        if rule is None or not meet(rule, a, b):
             return []
         ends = {"a": {"guid": a.guid, "model": m}, "b": {"guid": b.guid, "model": n}}
-        return [dict(ends, distance=rule["distance"], rule=number)]
+        within = {"distance": rule["distance"]} if rule["kind"] == "clash" else {}
+        return [dict(ends, **within, rule=number)]
+
+
+def meet(rule: Tree, a: Element, b: Element) -> bool:
+    """Whether two elements meet as a rule asks."""
+    if rule["kind"] == "clash":
+        return elements_near(a, b, rule["distance"] * PER_MM)
+    return rule["kind"] == "pierce" and elements_pierce(a, b)
 
 
 def same_members(one: list[Member], other: list[Member]) -> bool:

@@ -85,6 +85,11 @@ function showChanges() {
   $('changes').replaceChildren(make('span', text('against', state.against.version), { className: 'soft' }), ...chips);
 }
 
+/** The rule of a clash, with its distance if it has one. */
+function ruleOf(clash) {
+  return clash.distance === undefined ? text('rulePierced', clash.rule) : text('ruleWithin', clash.rule, clash.distance);
+}
+
 function row(clash) {
   const a = sideOf(clash.a);
   const b = sideOf(clash.b);
@@ -94,7 +99,7 @@ function row(clash) {
   const details = make('small', [
     clash.change ? make('span', text('change-' + clash.change), { className: 'word-' + clash.change }) : null,
     `${clash.change ? ', ' : ''}${shortClass(a.class)} × ${shortClass(b.class)}, ${a.model} × ${b.model}, ` +
-      `${text('ruleWithin', clash.rule, clash.distance)}${storeys ? ', ' + storeys : ''}`,
+      `${ruleOf(clash)}${storeys ? ', ' + storeys : ''}`,
     topic ? make('span', text('topicNumber', topic.server_assigned_id), { className: 'badge' }) : null]);
   const open = button([title, details], () => choose(clash), { 'aria-current': String(clash === state.clash) });
   return make('li', [open], { className: clash.change ? 'is-' + clash.change : '' });
@@ -138,7 +143,7 @@ export function choose(clash) {
   state.clash = clash;
   const places = [clash.a, clash.b].map(placeOf).filter(place => place !== undefined);
   const boxes = [sideOf(clash.a).box, sideOf(clash.b).box];
-  markPair(places, boxes[0] && boxes[1] ? meeting(boxes[0], boxes[1], Math.max(20, clash.distance)) : null);
+  markPair(places, boxes[0] && boxes[1] ? meeting(boxes[0], boxes[1], Math.max(20, clash.distance || 0)) : null);
   if (places.length < 2) say(text('elementGone'));
   show();
 }

@@ -6,17 +6,18 @@ import { explain } from './faults.js';
 import * as api from './api.js';
 
 const COLUMNS = ['a', 'b', 'kind', 'distance', 'storey', 'level', 'models', 'found'];
-const OPTIONS = { kind: ['clash', 'ignore'], storey: ['any', 'same', 'different'], models: ['any', 'same', 'other'] };
+const OPTIONS = { kind: ['clash', 'pierce', 'ignore'], storey: ['any', 'same', 'different'], models: ['any', 'same', 'other'] };
 
 let table = [];
 let bad = -1;
 let touched = false;
 
-/** What goes out: the members that a rule has, numbers as numbers. */
+/** What goes out: the members that a rule has, numbers as numbers. A pierce rule has no distance. */
 export function bodyOf(rules) {
   return rules.map(rule => {
     const out = { a: rule.a, b: rule.b, kind: rule.kind, storey: rule.storey, models: rule.models };
-    if (rule.distance !== '' && rule.distance !== null && rule.distance !== undefined) out.distance = Number(rule.distance);
+    const told = rule.distance !== '' && rule.distance !== null && rule.distance !== undefined;
+    if (told && rule.kind !== 'pierce') out.distance = Number(rule.distance);
     if (rule.level) out.level = rule.level;
     return out;
   });

@@ -12,10 +12,10 @@ use Rattle.bim_model.specs.declared.rules.StoreyTest.TheVariants as storey
 use Rattle.bim_model.specs.declared.rules.ModelTest.{ModelTest}
 use Rattle.bim_model.specs.declared.rules.ModelTest.TheVariants as models
 use Rattle.bim_model.specs.declared.rules.RuleKind.{RuleKind}
-use Rattle.bim_model.specs.declared.rules.RuleKind.TheVariants.{Clash, Ignore}
+use Rattle.bim_model.specs.declared.rules.RuleKind.TheVariants.{Clash, Pierce, Ignore}
 use Rattle.bim_model.specs.declared.rules.Rule.{Rule}
 use Rattle.bim_model.specs.declared.rules.Found.{Found}
-use Rattle.bim_model.specs.declared.rules.Meeting.TheVariants.{Within}
+use Rattle.bim_model.specs.declared.rules.Meeting.TheVariants.{Within, Through}
 
 -- any class passes, or the one that is named
 abbrev pub passes_class : ClassTest → List ℕ → Bool
@@ -71,6 +71,7 @@ fits rule a b same =
 abbrev pub decided : RuleKind → ℕ → Option Found
 decided (Clash distance) number =
     Some (record { rule = number; meeting = Within; distance = distance })
+decided Pierce number = Some (record { rule = number; meeting = Through; distance = 0 })
 decided Ignore number = None
 
 -- the first rule that fits decides; the first of the list has the number n
@@ -83,10 +84,17 @@ rule_from n (rule ∷ rules) a b same =
 abbrev pub rule_of : List Rule → Element → Element → Bool → Option Found
 rule_of rules a b same = rule_from 0 rules a b same
 
--- the distance of a rule in millimetres, 0 of one that ignores
+-- the distance of a rule in millimetres, 0 of one that has none
 abbrev pub distance_of : RuleKind → ℕ
 distance_of (Clash distance) = distance
+distance_of Pierce = 0
 distance_of Ignore = 0
+
+-- the distance of a rule in millimetres, if it has one
+abbrev pub distance_if : RuleKind → Option ℕ
+distance_if (Clash distance) = Some distance
+distance_if Pierce = None
+distance_if Ignore = None
 
 -- the greatest distance of the rules, 0 where there is none
 abbrev pub greatest_distance : List Rule → ℕ

@@ -42,6 +42,8 @@ pub enum ModelTest {
 pub enum RuleKind {
     /// They clash where their surfaces come within the distance.
     Clash { distance: Distance },
+    /// They clash where their surfaces go through each other; those that only touch don't.
+    Pierce,
     /// They never clash.
     Ignore,
 }
@@ -65,6 +67,8 @@ pub struct Rule {
 pub enum Meeting {
     /// Their surfaces come within the rule's distance.
     Within,
+    /// Their surfaces go through each other, whatever the distance.
+    Through,
 }
 
 /// The rule of a pair.
@@ -74,7 +78,7 @@ pub struct Found {
     pub rule: u32,
     /// What it asks of the pair.
     pub meeting: Meeting,
-    /// Its distance.
+    /// Its distance, 0 where it has none.
     pub distance: Distance,
 }
 
@@ -218,6 +222,11 @@ pub fn rule_of(rules: &Rules, a: &Element, b: &Element, same_model: bool) -> Opt
                     rule: number,
                     meeting: Meeting::Within,
                     distance,
+                }),
+                RuleKind::Pierce => Some(Found {
+                    rule: number,
+                    meeting: Meeting::Through,
+                    distance: Distance::new(0),
                 }),
                 RuleKind::Ignore => None,
             };

@@ -17,7 +17,7 @@ use Rattle.bim_model.specs.declared.rules.StoreyTest.TheVariants as storey
 use Rattle.bim_model.specs.declared.rules.ModelTest.{ModelTest}
 use Rattle.bim_model.specs.declared.rules.ModelTest.TheVariants as models
 use Rattle.bim_model.specs.declared.rules.RuleKind.{RuleKind}
-use Rattle.bim_model.specs.declared.rules.RuleKind.TheVariants.{Clash, Ignore}
+use Rattle.bim_model.specs.declared.rules.RuleKind.TheVariants.{Clash, Pierce, Ignore}
 use Rattle.bim_model.specs.declared.rules.Rule.{Rule}
 use Rattle.bim_model.specs.Keys.{Subject, subjects_of, key_of}
 use Rattle.bim_model.specs.Snapshots.{Version}
@@ -195,8 +195,13 @@ number_tells a b = told (eqb_tells a b)
 
 kind_tells : (a b : RuleKind) → Tells (same_kind a b) (a ≡ b)
 kind_tells (Clash a) (Clash b) = instead (a == b) (a ≡ b) (Clash a ≡ Clash b) (λ e. ap (λ t. Clash t) e) (λ e. cc) (number_tells a b)
+kind_tells (Clash a) Pierce = never (Clash a ≡ Pierce) (λ e. cc)
 kind_tells (Clash a) Ignore = never (Clash a ≡ Ignore) (λ e. cc)
+kind_tells Pierce (Clash b) = never (Pierce ≡ Clash b) (λ e. cc)
+kind_tells Pierce Pierce = (λ e. refl, λ x. refl)
+kind_tells Pierce Ignore = never (Pierce ≡ Ignore) (λ e. cc)
 kind_tells Ignore (Clash b) = never (Ignore ≡ Clash b) (λ e. cc)
+kind_tells Ignore Pierce = never (Ignore ≡ Pierce) (λ e. cc)
 kind_tells Ignore Ignore = (λ e. refl, λ x. refl)
 
 rule_path : (r s : Rule) → r.a ≡ s.a → r.b ≡ s.b → r.storey ≡ s.storey → r.level ≡ s.level → r.models ≡ s.models → r.kind ≡ s.kind → r ≡ s

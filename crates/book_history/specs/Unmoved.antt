@@ -11,7 +11,7 @@ use Rattle.bim_model.specs.declared.rules.StoreyTest.TheVariants as storey
 use Rattle.bim_model.specs.declared.rules.ModelTest.{ModelTest}
 use Rattle.bim_model.specs.declared.rules.ModelTest.TheVariants as models
 use Rattle.bim_model.specs.declared.rules.RuleKind.{RuleKind}
-use Rattle.bim_model.specs.declared.rules.RuleKind.TheVariants.{Clash, Ignore}
+use Rattle.bim_model.specs.declared.rules.RuleKind.TheVariants.{Clash, Pierce, Ignore}
 use Rattle.bim_model.specs.declared.rules.Rule.{Rule}
 use Rattle.bim_model.specs.Keys.{Subject, subjects_of}
 use Rattle.bim_model.specs.Snapshots.{Version}
@@ -80,11 +80,16 @@ same_models models.Other models.Any = false
 same_models models.Other models.Same = false
 same_models models.Other models.Other = true
 
--- two rules find the same: clashes within one distance, or nothing
+-- two rules find the same: clashes within one distance, what pierces, or nothing
 abbrev pub same_kind : RuleKind → RuleKind → Bool
 same_kind (Clash a) (Clash b) = a == b
+same_kind (Clash a) Pierce = false
 same_kind (Clash a) Ignore = false
+same_kind Pierce (Clash b) = false
+same_kind Pierce Pierce = true
+same_kind Pierce Ignore = false
 same_kind Ignore (Clash b) = false
+same_kind Ignore Pierce = false
 same_kind Ignore Ignore = true
 
 -- two rules are one

@@ -7,7 +7,7 @@ use Rattle.bim_model.specs.declared.geometry.Triangle.{Triangle}
 use Rattle.bim_model.specs.declared.element.Element.{Element}
 use Rattle.bim_model.specs.declared.rules.Rule.{Rule}
 use Rattle.bim_model.specs.declared.rules.RuleKind.{RuleKind}
-use Rattle.bim_model.specs.declared.rules.RuleKind.TheVariants.{Clash, Ignore}
+use Rattle.bim_model.specs.declared.rules.RuleKind.TheVariants.{Clash, Pierce, Ignore}
 use Rattle.bim_model.specs.declared.rules.Found.{Found}
 use Rattle.bim_model.specs.Boxes.{corners_of}
 use Rattle.bim_model.specs.Models.{farthest, IsInReach, IsModelled}
@@ -40,6 +40,7 @@ distance_in (Some f) = f.distance
 
 decided_at_most : (kind : RuleKind) (n m : ℕ) (f : Found) → distance_of kind ≤ m → decided kind n ≡ Some f → f.distance ≤ m
 decided_at_most (Clash distance) n m f s e = let P : Option Found → Type 0 = λ o. distance_in o ≤ m in subst P e s
+decided_at_most Pierce n m f s e = let P : Option Found → Type 0 = λ o. distance_in o ≤ m in subst P e s
 decided_at_most Ignore n m f s e = cc
 
 chosen : (b : Bool) (x y : Option Found) (f : Found) (m : ℕ) → cond b x y ≡ Some f → (x ≡ Some f → f.distance ≤ m) → (y ≡ Some f → f.distance ≤ m) → f.distance ≤ m

@@ -6,13 +6,15 @@ use Rattle.bim_model.specs.declared.geometry.Extent.{Extent}
 use Rattle.bim_model.specs.declared.element.Element.{Element}
 use Rattle.bim_model.specs.declared.rules.Rule.{Rule}
 use Rattle.bim_model.specs.declared.rules.Meeting.{Meeting}
-use Rattle.bim_model.specs.declared.rules.Meeting.TheVariants.{Within}
+use Rattle.bim_model.specs.declared.rules.Meeting.TheVariants.{Within, Through}
 use Rattle.bim_model.specs.declared.rules.Found.{Found}
 use Rattle.bim_model.specs.Distances.{in_grid_numbers}
 use Rattle.bim_model.specs.Rules.{IsRules}
 use Rattle.bim_model.specs.Keys.{Subject}
 use Rattle.clearance.specs.Near.{ElementsNear}
 use Rattle.clearance.proofs.Decided.{elements_decided}
+use Rattle.tri_pierce.proofs.DecidedSigns.{elements_decided as piercing_decided}
+use Rattle.tri_pierce.proofs.NearPoints.{elements_near}
 use Rattle.box_lanes.specs.BoxPlaces.{box_at, nowhere}
 use Rattle.bucket_grid.specs.declared.cell.Cell.{Cell}
 use Rattle.bucket_grid.specs.Cells.{holds, members, IsOwner, IsBucket}
@@ -45,9 +47,10 @@ pub why : (o : Option Found) (x y : Element) (r : ℕ) → clash_by o x y ≡ So
 why None x y r e = cc
 why (Some f) x y r e = met_by f x y r (meet_by f.meeting f.distance x y) refl e
 
--- elements that meet at a distance are near at it
+-- elements that meet as a rule asks are near at its distance
 pub met_near : (m : Meeting) (d : ℕ) (x y : Element) → meet_by m d x y ≡ true → ElementsNear x y (in_grid_numbers d)
 met_near Within d x y e = (elements_decided x y (in_grid_numbers d)).0 e
+met_near Through d x y e = elements_near x y (in_grid_numbers d) ((piercing_decided x y).0 e)
 
 -- a clash, by its numbers
 abbrev pub IsClash : List Rule → List Subject → SetPair → Type 0

@@ -8,7 +8,7 @@ use Rattle.bim_model.specs.declared.element.Element.{Element}
 use Rattle.bim_model.specs.declared.keys.ElementKey.{ElementKey}
 use Rattle.bim_model.specs.declared.rules.Rule.{Rule}
 use Rattle.bim_model.specs.declared.rules.Meeting.{Meeting}
-use Rattle.bim_model.specs.declared.rules.Meeting.TheVariants.{Within}
+use Rattle.bim_model.specs.declared.rules.Meeting.TheVariants.{Within, Through}
 use Rattle.bim_model.specs.declared.rules.Found.{Found}
 use Rattle.bim_model.specs.Distances.{in_grid_numbers}
 use Rattle.bim_model.specs.Rules.{passes_classes, passes_storeys, passes_level, passes_models, fits, decided, rule_from}
@@ -17,6 +17,7 @@ use Rattle.bim_model.specs.Keys.{Subject, subjects_of}
 use Rattle.bim_model.specs.declared.geometry.Triangle.{Triangle}
 use Rattle.bim_model.proofs.Unique.{extent_same}
 use Rattle.clearance.specs.Decided.{is_near_lists, is_near}
+use Rattle.tri_pierce.specs.PiercingSigns.{is_piercing_lists, is_piercing}
 use Rattle.box_lanes.specs.BoxPlaces.{box_at, nowhere}
 use Rattle.bucket_grid.specs.declared.cell.Cell.{Cell}
 use Rattle.bucket_grid.specs.Cells.{holds, members, owner_of}
@@ -64,8 +65,13 @@ near_like : (x y u v : Element) (d : ℕ) → Like x u → Like y v → is_near 
 unfolding is_near
 near_like x y u v d h k = ap₂ (λ ps qs. is_near_lists ps qs d) h.triangles k.triangles
 
+pierce_like : (x y u v : Element) → Like x u → Like y v → is_piercing x y ≡ is_piercing u v
+unfolding is_piercing
+pierce_like x y u v h k = ap₂ (λ ps qs. is_piercing_lists ps qs) h.triangles k.triangles
+
 meet_like : (m : Meeting) (d : ℕ) (x y u v : Element) → Like x u → Like y v → meet_by m d x y ≡ meet_by m d u v
 meet_like Within d x y u v h k = near_like x y u v (in_grid_numbers d) h k
+meet_like Through d x y u v h k = pierce_like x y u v h k
 
 by_like : (o : Option Found) (x y u v : Element) → Like x u → Like y v → clash_by o x y ≡ clash_by o u v
 by_like None x y u v h k = refl

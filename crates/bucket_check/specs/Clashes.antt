@@ -10,13 +10,14 @@ use Rattle.bim_model.specs.declared.geometry.Extent.{Extent}
 use Rattle.bim_model.specs.declared.element.Element.{Element}
 use Rattle.bim_model.specs.declared.rules.Rule.{Rule}
 use Rattle.bim_model.specs.declared.rules.Meeting.{Meeting}
-use Rattle.bim_model.specs.declared.rules.Meeting.TheVariants.{Within}
+use Rattle.bim_model.specs.declared.rules.Meeting.TheVariants.{Within, Through}
 use Rattle.bim_model.specs.declared.rules.Found.{Found}
 use Rattle.bim_model.specs.Distances.{in_grid_numbers}
 use Rattle.bim_model.specs.Rules.{rule_of}
 use Rattle.bim_model.specs.Snapshots.{Version}
 use Rattle.bim_model.specs.Keys.{Subject, subjects_of}
 use Rattle.clearance.specs.Decided.{is_near}
+use Rattle.tri_pierce.specs.PiercingSigns.{is_piercing}
 use Rattle.bucket_grid.specs.declared.cell.Cell.{Cell}
 use Rattle.bucket_grid.specs.Cells.{owner_of}
 use Rattle.bucket_grid.specs.Subjects.{subject_at}
@@ -28,9 +29,10 @@ use Rattle.bucket_check.specs.declared.pair.SetPair.{SetPair}
 abbrev pub rule_between : List Rule → Subject → Subject → Option Found
 rule_between rules a b = rule_of rules a.element b.element (bytes_eq a.name b.name)
 
--- two elements meet in that way, at a distance in millimetres
+-- two elements meet in that way: their surfaces come within a distance in millimetres, or they pierce
 abbrev pub meet_by : Meeting → ℕ → Element → Element → Bool
 meet_by Within distance a b = is_near a b (in_grid_numbers distance)
+meet_by Through distance a b = is_piercing a b
 
 -- the number of a rule that decides for two elements, where they meet as it asks
 abbrev pub clash_by : Option Found → Element → Element → Option ℕ

@@ -23,6 +23,7 @@ use bucket_grid::{Cell, Grid, owner_of, start_of};
 use clearance::solids_near;
 use std::alloc::{AllocError, Global};
 use std::sync::ledger::Ledger;
+use tri_pierce::solids_pierce;
 
 fn is_cell(a: Cell, b: Cell) -> bool
     ensures { result ≡ is_cell a b }
@@ -49,6 +50,7 @@ fn meet<L: Ledger>(found: Found, a: &Element, b: &Element, steps: &mut Steps<L>)
 {
     match found.meeting {
         Meeting::Within => solids_near(a, b, found.distance.in_grid_numbers(), steps),
+        Meeting::Through => solids_pierce(a, b, steps),
     }
 }
 

@@ -9,7 +9,7 @@ use Rattle.bim_model.specs.declared.geometry.Extent.{Extent}
 use Rattle.bim_model.specs.declared.element.Element.{Element}
 use Rattle.bim_model.specs.declared.rules.Rule.{Rule}
 use Rattle.bim_model.specs.declared.rules.RuleKind.{RuleKind}
-use Rattle.bim_model.specs.declared.rules.RuleKind.TheVariants.{Clash, Ignore}
+use Rattle.bim_model.specs.declared.rules.RuleKind.TheVariants.{Clash, Pierce, Ignore}
 use Rattle.bim_model.specs.declared.rules.Found.{Found}
 use Rattle.bim_model.specs.Distances.{IsDistance, in_grid_numbers}
 use Rattle.bim_model.specs.Rules.{fits, decided, rule_from, rule_of, distance_of, IsRule, IsRules}
@@ -32,6 +32,7 @@ distance_in (Some f) = f.distance
 
 decided_small : (kind : RuleKind) (n : ℕ) (f : Found) → IsDistance (distance_of kind) → decided kind n ≡ Some f → IsDistance f.distance
 decided_small (Clash distance) n f s e = let P : Option Found → Type 0 = λ o. IsDistance (distance_in o) in subst P e s
+decided_small Pierce n f s e = let P : Option Found → Type 0 = λ o. IsDistance (distance_in o) in subst P e s
 decided_small Ignore n f s e = cc
 
 chosen_small : (b : Bool) (x y : Option Found) (f : Found) → cond b x y ≡ Some f → (x ≡ Some f → IsDistance f.distance) → (y ≡ Some f → IsDistance f.distance) → IsDistance f.distance

@@ -42,10 +42,17 @@ fn same_kind(a: RuleKind, b: RuleKind) -> bool
     match a {
         RuleKind::Clash { distance: first } => match b {
             RuleKind::Clash { distance: second } => first.millimetres() == second.millimetres(),
+            RuleKind::Pierce => false,
+            RuleKind::Ignore => false,
+        },
+        RuleKind::Pierce => match b {
+            RuleKind::Clash { distance: _ } => false,
+            RuleKind::Pierce => true,
             RuleKind::Ignore => false,
         },
         RuleKind::Ignore => match b {
             RuleKind::Clash { distance: _ } => false,
+            RuleKind::Pierce => false,
             RuleKind::Ignore => true,
         },
     }

@@ -4,21 +4,22 @@ use Rattle.std.specs.Str.{bytes_eq}
 use Rattle.bim_model.specs.declared.element.Element.{Element}
 use Rattle.bim_model.specs.declared.rules.Rule.{Rule}
 use Rattle.bim_model.specs.declared.rules.RuleKind.{RuleKind}
-use Rattle.bim_model.specs.declared.rules.RuleKind.TheVariants.{Clash, Ignore}
+use Rattle.bim_model.specs.declared.rules.RuleKind.TheVariants.{Clash, Pierce, Ignore}
 use Rattle.bim_model.specs.declared.rules.Meeting.{Meeting}
-use Rattle.bim_model.specs.declared.rules.Meeting.TheVariants.{Within}
+use Rattle.bim_model.specs.declared.rules.Meeting.TheVariants.{Within, Through}
 use Rattle.bim_model.specs.declared.rules.Found.{Found}
 use Rattle.bim_model.specs.Distances.{in_grid_numbers}
-use Rattle.bim_model.specs.Rules.{fits, decided, rule_from, distance_of}
+use Rattle.bim_model.specs.Rules.{fits, decided, rule_from, distance_if}
 use Rattle.bim_model.specs.Snapshots.{Version}
 use Rattle.bim_model.specs.Keys.{Subject, subjects_of}
 use Rattle.clearance.proofs.Decided.{elements_decided}
+use Rattle.tri_pierce.proofs.DecidedSigns.{elements_decided as piercing_decided}
 use Rattle.bucket_check.specs.declared.pair.SetPair.{SetPair}
 use Rattle.bucket_check.specs.Clashes.{meet_by, rule_between, clash_by, clash_of, clashes, IsBefore}
 use Rattle.bucket_check.proofs.Lists.{Lists, lists_one}
 use Rattle.bucket_check.proofs.Pairs.{once}
 use Rattle.bucket_check.proofs.Owned.{IsClash as IsFound, why, clashes_list}
-use Rattle.clash_publish.specs.Listed.{element_of, distance_at, Meet, ClashBy, IsClash}
+use Rattle.clash_publish.specs.Listed.{element_of, distance_at, distance_by, Meet, ClashBy, IsClash}
 use Rattle.clash_publish.specs.ClashListLaws.{ClashesAreListed}
 
 -- a list of all that has a property is one of all that has another with the same members
@@ -29,15 +30,15 @@ abbrev number_in : Option Found → ℕ
 number_in None = 0
 number_in (Some f) = f.rule
 
-abbrev distance_in : Option Found → ℕ
-distance_in None = 0
-distance_in (Some f) = f.distance
+abbrev distance_in : Option Found → Option ℕ
+distance_in None = None
+distance_in (Some f) = distance_by f.meeting f.distance
 
 -- the found rule stands at a place of the list whose first rule has the number n
 record StandsAt (rules : List Rule) (n : ℕ) (f : Found) : Type 0 where
   place : ℕ
   number : f.rule ≡ n + place
-  distance : f.distance ≡ distance_at rules place
+  distance : distance_by f.meeting f.distance ≡ distance_at rules place
 
 first_stands : (kind : RuleKind) (rule : Rule) (rules : List Rule) (n : ℕ) (f : Found) → rule.kind ≡ kind → decided kind n ≡ Some f → StandsAt (rule ∷ rules) n f
 first_stands (Clash d) rule rules n f e h =
@@ -45,7 +46,14 @@ first_stands (Clash d) rule rules n f e h =
     record {
       place = 0;
       number = omega arith;
-      distance = sym (ap distance_in h) ∙ sym (ap distance_of e);
+      distance = sym (ap distance_in h) ∙ sym (ap distance_if e);
+    }
+first_stands Pierce rule rules n f e h =
+    let is : n ≡ f.rule = ap number_in h in
+    record {
+      place = 0;
+      number = omega arith;
+      distance = sym (ap distance_in h) ∙ sym (ap distance_if e);
     }
 first_stands Ignore rule rules n f e h = cc
 
@@ -62,7 +70,7 @@ stands (r ∷ rules) n a b same f e =
     chosen (fits r a b same) (decided r.kind n) (rule_from (n + 1) rules a b same) f (StandsAt (r ∷ rules) n f) e
     (λ g. first_stands r.kind r rules n f refl g) (λ g. later_stands r rules n f (stands rules (n + 1) a b same f g))
 
-distance_found : (rules : List Rule) (s t : Subject) (f : Found) → rule_between rules s t ≡ Some f → f.distance ≡ distance_at rules f.rule
+distance_found : (rules : List Rule) (s t : Subject) (f : Found) → rule_between rules s t ≡ Some f → distance_by f.meeting f.distance ≡ distance_at rules f.rule
 distance_found rules s t f e =
     let at = stands rules 0 s.element t.element (bytes_eq s.name t.name) f e in
     let here : at.place ≡ f.rule = omega (arith, at.number) in
@@ -71,9 +79,11 @@ distance_found rules s t f e =
 -- the test of a meeting decides it
 meets : (m : Meeting) (d : ℕ) (x y : Element) → meet_by m d x y ≡ true → Meet m d x y
 meets Within d x y e = (elements_decided x y (in_grid_numbers d)).0 e
+meets Through d x y e = (piercing_decided x y).0 e
 
 met : (m : Meeting) (d : ℕ) (x y : Element) → Meet m d x y → meet_by m d x y ≡ true
 met Within d x y h = (elements_decided x y (in_grid_numbers d)).1 h
+met Through d x y h = (piercing_decided x y).1 h
 
 -- why two elements clash
 pub clash_why : (rules : List Rule) (s t : Subject) (r : ℕ) → clash_of rules s t ≡ Some r → ClashBy rules s t r

@@ -119,17 +119,18 @@ impl Published {
         grid.models()[place.model].name.as_str()
     }
 
-    /// The distance of a rule, 0 where it has none or isn't there.
-    pub fn distance(&self, rule: u32) -> Distance
+    /// The distance of a rule, none where it has none or isn't there.
+    pub fn distance(&self, rule: u32) -> Option<Distance>
         ensures { result ≡ distance_at self.now.rules rule }
     {
         let rules = self.grid.get().rules().list();
         if rule as usize >= rules.len() {
-            return Distance::new(0);
+            return None;
         }
         match rules[rule as usize].kind {
-            RuleKind::Clash { distance } => distance,
-            RuleKind::Ignore => Distance::new(0),
+            RuleKind::Clash { distance } => Some(distance),
+            RuleKind::Pierce => None,
+            RuleKind::Ignore => None,
         }
     }
 }

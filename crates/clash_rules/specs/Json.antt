@@ -70,11 +70,12 @@ models_named text =
 unfoldable pub models_in : Data → Option ModelTest
 models_in rule = optional models.Any models_named (get (codes "models") rule)
 
--- what a text says of the pairs that the rule fits: `clash` or `ignore`
+-- what a text says of the pairs that the rule fits: `clash`, `pierce` or `ignore`
 unfoldable pub word_named : List ℕ → Option Word
 word_named text =
     cond (bytes_eq text (codes "clash")) (Some word.Clash)
-    (cond (bytes_eq text (codes "ignore")) (Some word.Ignore) None)
+    (cond (bytes_eq text (codes "pierce")) (Some word.Pierce)
+    (cond (bytes_eq text (codes "ignore")) (Some word.Ignore) None))
 
 -- a clash rule, unless it is told
 unfoldable pub word_in : Data → Option Word
@@ -112,14 +113,32 @@ if_number (Some value) =
 unfoldable pub distance_in : Data → Spelled
 distance_in rule = if_number (get (codes "distance") rule)
 
--- a clash rule must have a distance; that of a rule that ignores is looked at all the same
+-- what a clash rule says: it must have a distance
+abbrev pub clash_kind : ℕ → Spelled → Result RuleKind RuleFault
+clash_kind index Absent = Err (BadRule index)
+clash_kind index (Within distance) = Ok (kind.Clash distance)
+clash_kind index Beyond = Err (Distance index)
+clash_kind index Bad = Err (BadRule index)
+
+-- what a rule that asks for piercing says: it must not have a distance, whatever it is
+abbrev pub pierce_kind : ℕ → Spelled → Result RuleKind RuleFault
+pierce_kind index Absent = Ok kind.Pierce
+pierce_kind index (Within distance) = Err (BadRule index)
+pierce_kind index Beyond = Err (BadRule index)
+pierce_kind index Bad = Err (BadRule index)
+
+-- what a rule that ignores says: it may have a distance, which is looked at all the same
+abbrev pub ignore_kind : ℕ → Spelled → Result RuleKind RuleFault
+ignore_kind index Absent = Ok kind.Ignore
+ignore_kind index (Within distance) = Ok kind.Ignore
+ignore_kind index Beyond = Err (Distance index)
+ignore_kind index Bad = Err (BadRule index)
+
+-- what a rule says, by its word and its distance
 abbrev pub kind_of : ℕ → Word → Spelled → Result RuleKind RuleFault
-kind_of index w Bad = Err (BadRule index)
-kind_of index w Beyond = Err (Distance index)
-kind_of index word.Clash Absent = Err (BadRule index)
-kind_of index word.Clash (Within distance) = Ok (kind.Clash distance)
-kind_of index word.Ignore Absent = Ok kind.Ignore
-kind_of index word.Ignore (Within distance) = Ok kind.Ignore
+kind_of index word.Clash distance = clash_kind index distance
+kind_of index word.Pierce distance = pierce_kind index distance
+kind_of index word.Ignore distance = ignore_kind index distance
 
 -- the rule of good members and a kind, or the kind's fault
 abbrev pub with_kind :

@@ -79,14 +79,15 @@ fn rules_of(alloc: Global, items: &[Value]) -> Result<Rules, RuleError>
 }
 
 /// The clash rules that a JSON tree spells: an object with `rules`, an array of objects. Each has `a` and
-/// `b`, `*` or a class of 1 to 64 characters of `A-Z0-9_`, and may have `kind` (`clash`, the default, or
-/// `ignore`), `distance` (a whole number of millimetres, which a clash rule must have), `storey` (`any`, the
-/// default, `same` or `different`), `level` (a text of up to 256 bytes) and `models` (`any`, the default,
-/// `same` or `other`). A member that is null counts as absent, another member is passed over.
+/// `b`, `*` or a class of 1 to 64 characters of `A-Z0-9_`, and may have `kind` (`clash`, the default,
+/// `pierce` or `ignore`), `distance` (a whole number of millimetres, which a clash rule must have and a
+/// pierce rule must not), `storey` (`any`, the default, `same` or `different`), `level` (a text of up to 256
+/// bytes) and `models` (`any`, the default, `same` or `other`). A member that is null counts as absent,
+/// another member is passed over.
 ///
 /// First it is C2 where there are over 200 rules, then C1 where there is no array of objects, then the first
-/// rule with a fault decides: C1 where a member is missing or bad, otherwise C3 where the distance isn't
-/// within 0 to 1,000.
+/// rule with a fault decides: C1 where a member is missing, bad or not allowed, otherwise C3 where the distance
+/// isn't within 0 to 1,000.
 #[tactic(auto, unfolding(crate::specs::Json::rules_of))]
 pub fn from_json(alloc: Global, tree: &Value) -> Result<Rules, RuleError>
     ensures { IsReadAs result (rules_of (view tree.now)) }

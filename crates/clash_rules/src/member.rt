@@ -5,7 +5,7 @@ ghost use Rattle.serde_json.specs.Find.{as_number, as_integer};
 ghost use Rattle.serde_json.specs.View.{view};
 ghost use Rattle.bim_model.specs.Rules as rules;
 ghost use Rattle.bim_model.specs.Rules.{is_class_char, IsClassTest, IsRule};
-ghost use Rattle.clash_rules.specs.Json.{is_class_name, if_class, class_in, storey_named, storey_in, models_named, models_in, word_named, word_in, if_level, level_in, tests_in, if_whole, distance_in, kind_of, joined, IsLevel};
+ghost use Rattle.clash_rules.specs.Json.{is_class_name, if_class, class_in, storey_named, storey_in, models_named, models_in, word_named, word_in, if_level, level_in, tests_in, if_whole, distance_in, clash_kind, pierce_kind, ignore_kind, kind_of, joined, IsLevel};
 
 use crate::rule_fault::RuleFault;
 use bim_model::{
@@ -19,6 +19,7 @@ use std::alloc::{AllocError, Global};
 #[derive(Clone, Copy)]
 pub enum Word {
     Clash,
+    Pierce,
     Ignore,
 }
 
@@ -167,6 +168,9 @@ fn word_named(text: &str) -> Option<Word>
     if text == "clash" {
         return Some(Word::Clash);
     }
+    if text == "pierce" {
+        return Some(Word::Pierce);
+    }
     if text == "ignore" {
         return Some(Word::Ignore);
     }
@@ -274,22 +278,54 @@ pub fn distance_in(rule: &Value) -> Spelled
     }
 }
 
+// What a clash rule of that number says.
+fn clash_kind(index: u64, distance: Spelled) -> Result<RuleKind, RuleFault>
+    ensures is { result ≡ clash_kind index distance }
+    ensures near { IfOk result (λ kind. rules.distance_of kind ≤ MOST_DISTANCE) }
+{
+    match distance {
+        Spelled::Absent => Err(RuleFault::BadRule { index }),
+        Spelled::Within(distance) => Ok(RuleKind::Clash { distance }),
+        Spelled::Beyond => Err(RuleFault::Distance { index }),
+        Spelled::Bad => Err(RuleFault::BadRule { index }),
+    }
+}
+
+// What a rule of that number that asks for piercing says.
+fn pierce_kind(index: u64, distance: Spelled) -> Result<RuleKind, RuleFault>
+    ensures is { result ≡ pierce_kind index distance }
+    ensures near { IfOk result (λ kind. rules.distance_of kind ≤ MOST_DISTANCE) }
+{
+    match distance {
+        Spelled::Absent => Ok(RuleKind::Pierce),
+        Spelled::Within(_) => Err(RuleFault::BadRule { index }),
+        Spelled::Beyond => Err(RuleFault::BadRule { index }),
+        Spelled::Bad => Err(RuleFault::BadRule { index }),
+    }
+}
+
+// What a rule of that number that ignores says.
+fn ignore_kind(index: u64, distance: Spelled) -> Result<RuleKind, RuleFault>
+    ensures is { result ≡ ignore_kind index distance }
+    ensures near { IfOk result (λ kind. rules.distance_of kind ≤ MOST_DISTANCE) }
+{
+    match distance {
+        Spelled::Absent => Ok(RuleKind::Ignore),
+        Spelled::Within(_) => Ok(RuleKind::Ignore),
+        Spelled::Beyond => Err(RuleFault::Distance { index }),
+        Spelled::Bad => Err(RuleFault::BadRule { index }),
+    }
+}
+
 // What a rule of that number says, by its word and its distance.
 fn kind_of(index: u64, word: Word, distance: Spelled) -> Result<RuleKind, RuleFault>
     ensures is { result ≡ kind_of index word distance }
     ensures near { IfOk result (λ kind. rules.distance_of kind ≤ MOST_DISTANCE) }
 {
-    match distance {
-        Spelled::Bad => Err(RuleFault::BadRule { index }),
-        Spelled::Beyond => Err(RuleFault::Distance { index }),
-        Spelled::Absent => match word {
-            Word::Clash => Err(RuleFault::BadRule { index }),
-            Word::Ignore => Ok(RuleKind::Ignore),
-        },
-        Spelled::Within(distance) => match word {
-            Word::Clash => Ok(RuleKind::Clash { distance }),
-            Word::Ignore => Ok(RuleKind::Ignore),
-        },
+    match word {
+        Word::Clash => clash_kind(index, distance),
+        Word::Pierce => pierce_kind(index, distance),
+        Word::Ignore => ignore_kind(index, distance),
     }
 }
 

@@ -7,8 +7,8 @@ use std::alloc::AllocError;
 pub enum RuleFault {
     /// C2: there are so many rules, more than 200.
     TooManyRules { count: u64 },
-    /// C1: a member of this rule is missing or isn't what it may be. It is 0 where there is no list of
-    /// objects at all.
+    /// C1: a member of this rule is missing or isn't what it may be, or it is a pierce rule with a distance. It is 0
+    /// where there is no list of objects at all.
     BadRule { index: u64 },
     /// C3: the distance of this rule is a whole number outside 0 to 1,000.
     Distance { index: u64 },

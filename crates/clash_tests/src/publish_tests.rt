@@ -139,11 +139,9 @@ fn pages_and_keys_are_told(rt: HostRuntime) -> Result<(), Fail> {
     assert_eq!(rt; set.model_name(third.b), "b");
     assert_eq!(rt; set.element(third.a).guid.chars, *b"0000000000000000000001");
     assert_eq!(rt; set.element(third.b).guid.chars, *b"0000000000000000000000");
-    let distances = (set.distance(third.rule), set.distance(1));
-    assert_eq!(rt;
-        (distances.0.millimetres(), distances.1.millimetres()),
-        (50, 0)
-    );
+    let distance = set.distance(third.rule).ok_or("a distance")?;
+    assert_eq!(rt; distance.millimetres(), 50);
+    assert_eq!(rt; set.distance(1).is_none(), true);
     assert_eq!(rt; set.snapshot().models().len(), 2);
     Ok(())
 }

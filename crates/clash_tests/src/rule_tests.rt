@@ -31,6 +31,9 @@ fn faults_of_rules_are_told(rt: HostRuntime) -> Result<(), Fail> {
         r#"{"rules":[{"a":"*","b":"*","kind":"ignore"},{"a":"*","b":"*","distance":1001},{}]}"#;
     assert_eq!(rt; fault_of(alloc, text)?, RuleFault::Distance { index: 1 });
     assert_eq!(rt; fault_of(alloc, "[]")?, RuleFault::BadRule { index: 0 });
+    let text =
+        r#"{"rules":[{"a":"*","b":"*","kind":"pierce"},{"a":"*","b":"*","kind":"pierce","distance":1001}]}"#;
+    assert_eq!(rt; fault_of(alloc, text)?, RuleFault::BadRule { index: 1 });
     Ok(())
 }
 

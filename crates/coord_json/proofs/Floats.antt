@@ -7,12 +7,13 @@ use Rattle.bim_model.specs.declared.element.Element.{Element}
 use Rattle.bim_model.specs.declared.named_model.NamedModel.{NamedModel}
 use Rattle.bim_model.specs.declared.rules.Rule.{Rule}
 use Rattle.bim_model.specs.declared.rules.RuleKind.{RuleKind}
-use Rattle.bim_model.specs.declared.rules.RuleKind.TheVariants.{Clash, Ignore}
+use Rattle.bim_model.specs.declared.rules.RuleKind.TheVariants.{Clash, Pierce, Ignore}
 use Rattle.bim_model.specs.Snapshots.{Version}
 use Rattle.bucket_check.specs.declared.pair.SetPair.{SetPair}
-use Rattle.coord_json.specs.RuleTrees.{storey_tree, class_text, storeys_text, models_text, clash_tree, ignore_tree, kind_tree, rule_items}
+use Rattle.coord_json.specs.RuleTrees.{storey_tree, class_text, storeys_text, models_text, clash_tree, plain_tree, kind_tree, rule_items}
 use Rattle.coord_json.specs.VersionTrees.{length_tree, box_tree, element_tree, model_tree, version_tree, changed_tree, AreElementTrees, AreModelTrees}
-use Rattle.coord_json.specs.ClashTrees.{side_tree, pair_tree, pair_items, part_tree, clashes_tree, pending_tree}
+use Rattle.clash_publish.specs.Listed.{distance_at}
+use Rattle.coord_json.specs.ClashTrees.{side_tree, near_tree, pierced_tree, pair_tree, pair_items, part_tree, clashes_tree, pending_tree}
 
 whole_has_none : (z : ℤ) → has_float (length_tree z) ≡ false
 whole_has_none (pos n) = refl
@@ -52,8 +53,9 @@ models_have_none (m ∷ ms) (item d ds) are =
 
 kind_has_none : (kind : RuleKind) (a b : List ℕ) (level : Data) (models storey : List ℕ) → has_float level ≡ false
     → has_float (kind_tree kind a b level models storey) ≡ false
-unfolding clash_tree ignore_tree
+unfolding clash_tree plain_tree
 kind_has_none (Clash distance) a b level models storey none = rw none refl
+kind_has_none Pierce a b level models storey none = rw none refl
 kind_has_none Ignore a b level models storey none = rw none refl
 
 pub rules_have_none : (rules : List Rule) → items_have_float (rule_items rules) ≡ false
@@ -73,13 +75,14 @@ side_has_none : (guid model : List ℕ) → has_float (side_tree guid model) ≡
 unfolding side_tree
 side_has_none guid model = refl
 
-pair_has_none : (a b : Data) (distance rule : ℕ) → has_float a ≡ false → has_float b ≡ false → has_float (pair_tree a b distance rule) ≡ false
-unfolding pair_tree
-pair_has_none a b distance rule one other = rw (one, other) refl
+pair_has_none : (a b : Data) (distance : Option ℕ) (rule : ℕ) → has_float a ≡ false → has_float b ≡ false → has_float (pair_tree a b distance rule) ≡ false
+unfolding near_tree pierced_tree
+pair_has_none a b (Some distance) rule one other = rw (one, other) refl
+pair_has_none a b None rule one other = rw (one, other) refl
 
 pairs_have_none : (version : Version) (ps : List SetPair) → items_have_float (pair_items version ps) ≡ false
 pairs_have_none version [] = refl
-pairs_have_none version (p ∷ ps) = rw (pair_has_none _ _ _ p.rule (side_has_none _ _) (side_has_none _ _), pairs_have_none version ps) refl
+pairs_have_none version (p ∷ ps) = rw (pair_has_none _ _ (distance_at version.rules p.rule) p.rule (side_has_none _ _) (side_has_none _ _), pairs_have_none version ps) refl
 
 part_has_none : (items : Items) (first total number : ℕ) → items_have_float items ≡ false → has_float (part_tree items first total number) ≡ false
 unfolding part_tree

@@ -1,5 +1,5 @@
 -- Clashes of a version as JSON data.
-use Rattle.std.specs.Prelude.{ℕ, List, [], ◌∷◌, length, take, drop, codes}
+use Rattle.std.specs.Prelude.{ℕ, List, [], ◌∷◌, length, take, drop, Option, Some, None, codes}
 use Rattle.serde_json.specs.Data.{Data, string, array, object, Items, no_items, item, member, no_members}
 use Rattle.bim_model.specs.Snapshots.{Version}
 use Rattle.bucket_check.specs.declared.pair.SetPair.{SetPair}
@@ -18,12 +18,22 @@ element_side version number =
     side_tree (element_of version number).element.guid.chars (element_of version number).name
 
 -- two elements that clash, the distance in millimetres that their rule asks for, and the rule's number, from 0
-unfoldable pub pair_tree : Data → Data → ℕ → ℕ → Data
-pair_tree a b distance rule =
+unfoldable pub near_tree : Data → Data → ℕ → ℕ → Data
+near_tree a b distance rule =
     object (member (codes "a") a
     (member (codes "b") b
     (member (codes "distance") (count_tree distance)
     (member (codes "rule") (count_tree rule) no_members))))
+
+-- two elements that clash under a rule without a distance, and the rule's number, from 0
+unfoldable pub pierced_tree : Data → Data → ℕ → Data
+pierced_tree a b rule =
+    object (member (codes "a") a (member (codes "b") b (member (codes "rule") (count_tree rule) no_members)))
+
+-- two elements that clash, by the distance of their rule, if it has one, and its number
+abbrev pub pair_tree : Data → Data → Option ℕ → ℕ → Data
+pair_tree a b (Some distance) rule = near_tree a b distance rule
+pair_tree a b None rule = pierced_tree a b rule
 
 -- a clash of a version
 abbrev pub clash_data : Version → SetPair → Data

@@ -8,7 +8,7 @@ use Rattle.bim_model.specs.declared.rules.StoreyTest.TheVariants as storey
 use Rattle.bim_model.specs.declared.rules.ModelTest.{ModelTest}
 use Rattle.bim_model.specs.declared.rules.ModelTest.TheVariants as models
 use Rattle.bim_model.specs.declared.rules.RuleKind.{RuleKind}
-use Rattle.bim_model.specs.declared.rules.RuleKind.TheVariants.{Clash, Ignore}
+use Rattle.bim_model.specs.declared.rules.RuleKind.TheVariants.{Clash, Pierce, Ignore}
 use Rattle.bim_model.specs.declared.rules.Rule.{Rule}
 
 -- a number of things
@@ -48,20 +48,21 @@ clash_tree a b distance level models storey =
     (member (codes "models") (string models)
     (member (codes "storey") (string storey) no_members)))))))
 
--- a rule by which elements never clash
-unfoldable pub ignore_tree : List ℕ → List ℕ → Data → List ℕ → List ℕ → Data
-ignore_tree a b level models storey =
+-- a rule without a distance, with the word of its kind
+unfoldable pub plain_tree : List ℕ → List ℕ → List ℕ → Data → List ℕ → List ℕ → Data
+plain_tree kind a b level models storey =
     object (member (codes "a") (string a)
     (member (codes "b") (string b)
-    (member (codes "kind") (string (codes "ignore"))
+    (member (codes "kind") (string kind)
     (member (codes "level") level
     (member (codes "models") (string models)
     (member (codes "storey") (string storey) no_members))))))
 
--- a rule of this kind
+-- a rule of this kind: elements clash within its distance, or where they pierce, or never
 abbrev pub kind_tree : RuleKind → List ℕ → List ℕ → Data → List ℕ → List ℕ → Data
 kind_tree (Clash distance) a b level models storey = clash_tree a b distance level models storey
-kind_tree Ignore a b level models storey = ignore_tree a b level models storey
+kind_tree Pierce a b level models storey = plain_tree (codes "pierce") a b level models storey
+kind_tree Ignore a b level models storey = plain_tree (codes "ignore") a b level models storey
 
 -- a rule
 abbrev pub rule_tree : Rule → Data

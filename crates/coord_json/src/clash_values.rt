@@ -3,7 +3,7 @@ ghost use Rattle.std.specs.Prelude.{◌≡◌, ◌<◌, All, length, IfOk};
 ghost use Rattle.serde_json.specs.View.{view, items_view};
 ghost use Rattle.bim_model.specs.Keys.{subjects_of};
 ghost use Rattle.clash_publish.specs.Listed.{IsClash};
-ghost use Rattle.coord_json.specs.ClashTrees.{side_tree, element_side, pair_tree, clash_data, pair_items, part_tree, clashes_tree, pending_tree};
+ghost use Rattle.coord_json.specs.ClashTrees.{side_tree, element_side, near_tree, pierced_tree, pair_tree, clash_data, pair_items, part_tree, clashes_tree, pending_tree};
 
 use bim_model::Distance;
 use bucket_check::SetPair;
@@ -27,17 +27,40 @@ fn side_out(alloc: Global, set: &Published, number: u32) -> Result<Value, AllocE
     side_tree(alloc, element.guid.as_str(), set.model_name(number))
 }
 
-#[tactic(auto, unfolding(crate::specs::ClashTrees::pair_tree))]
-fn pair_tree(
+#[tactic(auto, unfolding(crate::specs::ClashTrees::near_tree))]
+fn near_tree(
     alloc: Global,
     a: Value,
     b: Value,
     distance: Distance,
     rule: u32,
 ) -> Result<Value, AllocError>
-    ensures { IfOk result (λ v. view v ≡ pair_tree (view a) (view b) distance rule) }
+    ensures { IfOk result (λ v. view v ≡ near_tree (view a) (view b) distance rule) }
 {
     json!(in alloc; { "a": a, "b": b, "distance": distance.millimetres(), "rule": rule })
+}
+
+#[tactic(auto, unfolding(crate::specs::ClashTrees::pierced_tree))]
+fn pierced_tree(alloc: Global, a: Value, b: Value, rule: u32) -> Result<Value, AllocError>
+    ensures { IfOk result (λ v. view v ≡ pierced_tree (view a) (view b) rule) }
+{
+    json!(in alloc; { "a": a, "b": b, "rule": rule })
+}
+
+// Two elements that clash, by the distance of their rule, if it has one.
+fn pair_tree(
+    alloc: Global,
+    a: Value,
+    b: Value,
+    distance: Option<Distance>,
+    rule: u32,
+) -> Result<Value, AllocError>
+    ensures { IfOk result (λ v. view v ≡ pair_tree (view a) (view b) distance rule) }
+{
+    match distance {
+        Some(distance) => near_tree(alloc, a, b, distance, rule),
+        None => pierced_tree(alloc, a, b, rule),
+    }
 }
 
 fn pair_out(alloc: Global, set: &Published, pair: SetPair) -> Result<Value, AllocError>

@@ -1,7 +1,7 @@
 //! Clash rules as JSON values.
 ghost use Rattle.std.specs.Prelude.{◌≡◌, IfOk};
 ghost use Rattle.serde_json.specs.View.{view, items_view};
-ghost use Rattle.coord_json.specs.RuleTrees.{class_text, storeys_text, models_text, storey_tree, clash_tree, ignore_tree, kind_tree, rule_tree, rule_items};
+ghost use Rattle.coord_json.specs.RuleTrees.{class_text, storeys_text, models_text, storey_tree, clash_tree, plain_tree, kind_tree, rule_tree, rule_items};
 
 use bim_model::{ClassTest, Distance, ModelTest, Rule, RuleKind, StoreyTest, Text};
 use serde_json::{Value, json};
@@ -69,21 +69,22 @@ fn clash_tree(
     })
 }
 
-#[tactic(auto, unfolding(crate::specs::RuleTrees::ignore_tree))]
-fn ignore_tree(
+#[tactic(auto, unfolding(crate::specs::RuleTrees::plain_tree))]
+fn plain_tree(
     alloc: Global,
+    kind: &str,
     a: &str,
     b: &str,
     level: Value,
     models: &str,
     storey: &str,
 ) -> Result<Value, AllocError>
-    ensures { IfOk result (λ v. view v ≡ ignore_tree a.now b.now (view level) models.now storey.now) }
+    ensures { IfOk result (λ v. view v ≡ plain_tree kind.now a.now b.now (view level) models.now storey.now) }
 {
     json!(in alloc; {
         "a": a,
         "b": b,
-        "kind": "ignore",
+        "kind": kind,
         "level": level,
         "models": models,
         "storey": storey
@@ -100,7 +101,8 @@ fn rule_out(alloc: Global, rule: &Rule) -> Result<Value, AllocError>
     let storey = storeys_text(rule.storey);
     match rule.kind {
         RuleKind::Clash { distance } => clash_tree(alloc, a, b, distance, level, models, storey),
-        RuleKind::Ignore => ignore_tree(alloc, a, b, level, models, storey),
+        RuleKind::Pierce => plain_tree(alloc, "pierce", a, b, level, models, storey),
+        RuleKind::Ignore => plain_tree(alloc, "ignore", a, b, level, models, storey),
     }
 }
 

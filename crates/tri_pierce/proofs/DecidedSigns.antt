@@ -140,6 +140,9 @@ pub triangles_swap : (p q : Triangle) → Pierces p q → Pierces q p
 unfolding Pierces
 triangles_swap p q h = pierces_swap (shape_of p) (shape_of q) h
 
+pub lists_swap : (ps qs : List Triangle) → ListsPierce ps qs → ListsPierce qs ps
+lists_swap ps qs (k, p, lt, e, (l, q, gt, f, h)) = (l, q, gt, f, (k, p, lt, e, triangles_swap p q h))
+
 pub elements_swap : (a b : Element) → ElementsPierce a b → ElementsPierce b a
 unfolding ElementsPierce
 elements_swap a b (k, p, lt, e, (l, q, gt, f, h)) = (l, q, gt, f, (k, p, lt, e, triangles_swap p q h))

@@ -35,6 +35,10 @@ is_extent ts k b a =
     }
 
 -- ---- beside a span, and so beside what lies in it
+turned : {A B : Type 0} → A ⊎ B → B ⊎ A
+turned (inl a) = inr a
+turned (inr b) = inl b
+
 pub spanned : (a b c low high p q r : ℤ) → low ≤ℤ p → low ≤ℤ q → low ≤ℤ r → p ≤ℤ high → q ≤ℤ high → r ≤ℤ high →
     Before a b c low high high ⊎ Before low high high a b c → Before a b c p q r ⊎ Before p q r a b c
 spanned a b c low high p q r lp lq lr hp hq hr (inl k) =
@@ -43,3 +47,9 @@ spanned a b c low high p q r lp lq lr hp hq hr (inl k) =
 spanned a b c low high p q r lp lq lr hp hq hr (inr k) =
     let m = k.between in
     inr (record { between = m; a_in = le_trans p high m hp k.b_in; b_in = le_trans q high m hq k.b_in; c_in = le_trans r high m hr k.b_in; p_in = k.p_in; q_in = k.q_in; r_in = k.r_in })
+
+-- two spans beside each other, and so what lies in the one beside what lies in the other
+pub both_spanned : (l h low high a b c p q r : ℤ) → l ≤ℤ a → l ≤ℤ b → l ≤ℤ c → a ≤ℤ h → b ≤ℤ h → c ≤ℤ h → low ≤ℤ p → low ≤ℤ q → low ≤ℤ r → p ≤ℤ high → q ≤ℤ high → r ≤ℤ high →
+    Before l h h low high high ⊎ Before low high high l h h → Before a b c p q r ⊎ Before p q r a b c
+both_spanned l h low high a b c p q r la lb lc ha hb hc lp lq lr hp hq hr k =
+    spanned a b c low high p q r lp lq lr hp hq hr (turned (spanned low high high l h a b c la lb lc ha hb hc (turned k)))

@@ -1,6 +1,6 @@
-//! Laws for callers: piercing is decided by signs, it is mutual, and what pierces is near at no distance.
+//! Laws for callers: piercing is decided by signs, it is mutual, and what pierces is near at any distance, also at 0.
 // What follows of the definitions alone.
-ghost use Rattle.std.specs.Prelude.{List, ◌↔◌, IsTrue};
+ghost use Rattle.std.specs.Prelude.{ℕ, List, ◌↔◌, IsTrue};
 ghost use Rattle.bim_model.specs.declared.geometry.Triangle.{Triangle};
 ghost use Rattle.bim_model.specs.declared.element.Element.{Element};
 ghost use Rattle.clearance.specs.Near.{Near, ElementsNear};
@@ -20,8 +20,8 @@ pub fn piercing_is_mutual()
     ensures elements { (a b : Element) → ElementsPierce a b → ElementsPierce b a }
 {}
 
-/// Triangles and elements that pierce are near at the distance 0.
+/// Triangles and elements that pierce are near at any distance, also at 0.
 pub fn piercing_is_near()
-    ensures triangles { (p q : Triangle) → Pierces p q → Near p q 0 }
-    ensures elements { (a b : Element) → ElementsPierce a b → ElementsNear a b 0 }
+    ensures triangles { (p q : Triangle) (d : ℕ) → Pierces p q → Near p q d }
+    ensures elements { (a b : Element) (d : ℕ) → ElementsPierce a b → ElementsNear a b d }
 {}

@@ -1,6 +1,6 @@
 //! Whether two elements pierce each other.
 // Lists of triangles, and elements.
-ghost use Rattle.std.specs.Prelude.{◌≡◌, ◌+◌, ◌↔◌, IsTrue, All};
+ghost use Rattle.std.specs.Prelude.{◌≡◌, ◌+◌, ◌<◌, ◌↔◌, IsTrue, All, length, take, drop};
 ghost use Rattle.bim_model.specs.Points.{IsInGrid};
 ghost use Rattle.bim_model.specs.Boxes.{IsExtentOf};
 ghost use Rattle.clearance.specs.Near.{ElementInGrid};
@@ -8,9 +8,12 @@ ghost use Rattle.tri_pierce.specs.Piercing.{PiercesAny, ListsPierce, ElementsPie
 ghost use Rattle.tri_pierce.specs.PiercingSigns.{is_piercing_lists, is_piercing};
 
 use crate::piercing::pierces;
-use crate::touching_boxes::is_outside;
+use crate::touching_boxes::{are_apart, is_outside};
 use bim_model::{Element, Extent, Steps, Triangle, extent_of};
 use std::sync::ledger::Ledger;
+
+/// How many triangles of a list share a box.
+const RUN: usize = 16;
 
 /// Whether p and a triangle of the list pierce.
 #[inline(always)]
@@ -41,6 +44,49 @@ fn row_pierces(p: &Triangle, qs: &[Triangle], around: Extent) -> bool
     pierces_any(p, qs)
 }
 
+/// Whether a triangle of ps and one of qs pierce, the box round qs being known.
+fn rows_pierce(ps: &[Triangle], qs: &[Triangle], around: Extent) -> bool
+    requires ps_in { All IsInGrid ps.now }
+    requires qs_in { All IsInGrid qs.now }
+    requires around_is { IsExtentOf qs.now around }
+    ensures { IsTrue result ↔ ListsPierce ps.now qs.now }
+{
+    for p in ps {
+        if row_pierces(p, qs, around) {
+            return true;
+        }
+    }
+    false
+}
+
+/// The same of a few triangles, whose own box is asked first.
+fn run_pierces(run: &[Triangle], qs: &[Triangle], around: Extent) -> bool
+    requires run_in { All IsInGrid run.now }
+    requires some { 0 < length run.now }
+    requires qs_in { All IsInGrid qs.now }
+    requires around_is { IsExtentOf qs.now around }
+    ensures { IsTrue result ↔ ListsPierce run.now qs.now }
+{
+    let own = extent_of(run);
+    if are_apart(own, around) {
+        return false;
+    }
+    rows_pierce(qs, run, own)
+}
+
+/// The first triangles of a list, as many as share a box, and those after them.
+#[inline(always)]
+fn split_run(ts: &[Triangle]) -> (&[Triangle], &[Triangle])
+    ensures front { result.0.now ≡ take 16 ts.now }
+    ensures behind { result.1.now ≡ drop 16 ts.now }
+{
+    if RUN < ts.len() {
+        ts.split_at(RUN)
+    } else {
+        ts.split_at(ts.len())
+    }
+}
+
 /// Whether a triangle of one list and a triangle of the other pierce. It takes no memory.
 pub fn lists_pierce(ps: &[Triangle], qs: &[Triangle]) -> bool
     requires ps_in { All IsInGrid ps.now }
@@ -52,10 +98,13 @@ pub fn lists_pierce(ps: &[Triangle], qs: &[Triangle]) -> bool
         return false;
     }
     let around = extent_of(qs);
-    for p in ps {
-        if row_pierces(p, qs, around) {
+    let mut rest = ps;
+    while !rest.is_empty() {
+        let (front, behind) = split_run(rest);
+        if run_pierces(front, qs, around) {
             return true;
         }
+        rest = behind;
     }
     false
 }

@@ -98,6 +98,26 @@ pub fn are_beside(p: &Triangle, q: &Triangle) -> bool
     is_beside(p.a.z, p.b.z, p.c.z, q.a.z, q.b.z, q.c.z)
 }
 
+/// Whether no triangle in the one box is known to pierce one in the other, since the boxes share no more than a side; a
+/// `false` says nothing.
+#[inline(always)]
+pub fn are_apart(own: Extent, around: Extent) -> bool
+    requires own_in { IsExtent own }
+    requires around_in { IsExtent around }
+    ensures { IsTrue result → (p q : Triangle) → InExtent own (shape_of p)
+        → InExtent around (shape_of q) → Pierces p q → ⊥ }
+{
+    let (l, h) = (own.low, own.high);
+    let (low, high) = (around.low, around.high);
+    if is_beside(l.x, h.x, h.x, low.x, high.x, high.x) {
+        return true;
+    }
+    if is_beside(l.y, h.y, h.y, low.y, high.y, high.y) {
+        return true;
+    }
+    is_beside(l.z, h.z, h.z, low.z, high.z, high.z)
+}
+
 /// Whether a triangle is known not to pierce any in a box, since its own shares no more than a side with it; a `false`
 /// says nothing.
 #[inline(always)]

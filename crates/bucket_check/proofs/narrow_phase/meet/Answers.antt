@@ -6,3 +6,9 @@ solids_near-requires-clause-a_in g c = in_grid _ c.requires.a_in
 
 pub solids_near-requires-clause-b_in : goal.solids_near-requires-clause-b_in
 solids_near-requires-clause-b_in g c = in_grid _ c.requires.b_in
+
+pub solids_pierce-requires-clause-a_in : goal.solids_pierce-requires-clause-a_in
+solids_pierce-requires-clause-a_in g c = in_grid _ c.requires.a_in
+
+pub solids_pierce-requires-clause-b_in : goal.solids_pierce-requires-clause-b_in
+solids_pierce-requires-clause-b_in g c = in_grid _ c.requires.b_in

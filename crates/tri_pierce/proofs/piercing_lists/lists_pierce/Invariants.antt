@@ -1,7 +1,12 @@
-use Rattle.std.proofs.Common.{All, take}
+use Rattle.std.proofs.Common.{All, List, length}
 use Rattle.bim_model.specs.declared.geometry.Triangle.{Triangle}
-use Rattle.tri_pierce.specs.Piercing.{PiercesAny}
+use Rattle.bim_model.specs.Points.{IsInGrid}
+use Rattle.clearance.proofs.Parts.{IsLeft}
+use Rattle.tri_pierce.specs.Piercing.{ListsPierce}
 use Rattle.tri_pierce.proofs.piercing_lists.lists_pierce.Given as goal
 
-abbrev pub invariant-loop-p : goal.invariant-loop-p
-invariant-loop-p l = All (λ (p : Triangle). PiercesAny p l.qs → ⊥) (take l.p-index l.ps)
+abbrev pub decreases-loop-rest : goal.decreases-loop-rest
+decreases-loop-rest l = length l.rest
+
+abbrev pub invariant-loop-rest : goal.invariant-loop-rest
+invariant-loop-rest l = All IsInGrid l.rest × IsLeft (λ (ts : List Triangle). ListsPierce ts l.qs) l.ps l.rest
