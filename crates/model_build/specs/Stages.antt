@@ -1,10 +1,12 @@
 -- The stages of the faults that a file's instances may have, and their order.
-use Rattle.std.specs.Prelude.{◌≡◌, ℕ, ◌<◌, ◌⊎◌, List, [], ◌∷◌}
+use Rattle.std.specs.Prelude.{◌≡◌, ℕ, ◌<◌, ◌⊎◌, true, List, [], ◌∷◌}
 use Rattle.bim_model.specs.declared.upload.Mode.{Mode}
 use Rattle.bim_model.specs.declared.upload.Many.TheVariants as many
 use Rattle.bim_model.specs.declared.upload.UploadFault.{UploadFault}
 use Rattle.bim_model.specs.declared.upload.UploadFault.TheVariants as faults
 use Rattle.p21_values.specs.declared.value.Instance.{Instance}
+use Rattle.ifc_instances.specs.declared.entity.Entity.{Entity}
+use Rattle.ifc_instances.specs.EntityLookup.{is_a}
 use Rattle.ifc_schema.specs.Used.{Used}
 use Rattle.ifc_schema.specs.Surveys.{SurveyFault, IsModelElement}
 use Rattle.ifc_units.specs.declared.scale.Scale.{Scale}
@@ -54,6 +56,10 @@ ObliqueStage world = LeastFault (Used world) (λ id fault. (fault ≡ faults.Obl
 abbrev pub ItemStage : List Instance → Mode → Scale → Stage
 ItemStage world mode scale = LeastFault (IsUnsupported world scale mode)
     (λ id fault. fault ≡ faults.UnsupportedItem id)
+
+-- an instance of that entity that is used
+abbrev pub IsUsed : Entity → List Instance → ℕ → Type 0
+IsUsed entity world id = Used world id × Finds world id (λ i. is_a entity i ≡ true)
 
 -- a used set with a bad index
 abbrev pub IndexStage : List Instance → Stage
