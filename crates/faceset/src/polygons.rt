@@ -1,0 +1,173 @@
+//! The loops of a face as one polygon, cut into triangles.
+ghost use Rattle.std.specs.Prelude.{◌≡◌, ◌≤◌, ◌+◌, ◌++◌, length, map, IfOk, MatchOption, None, Some, slice_index_or};
+ghost use Rattle.std.specs.List.{flat_map};
+ghost use Rattle.ear_cut.specs.Areas.{point_at};
+ghost use Rattle.void_bridge.specs.HoleLoops.{corner_count, IsLoop, AreLoops};
+ghost use Rattle.void_bridge.specs.Bridges.{joined_of};
+ghost use Rattle.faceset.specs.FacePolygons.{ear_by, ears_by};
+ghost use Rattle.faceset.specs.FaceSets.{most_corners};
+ghost use Rattle.faceset.specs.inner.Cuts.{IsLoopsCut};
+
+use bim_model::Point;
+use ear_cut::{CutFault, Ear, cut};
+use std::alloc::{AllocError, Global};
+use void_bridge::{BridgeError, join_loops};
+
+/// What comes of the loops of a face.
+#[derive(Drop)]
+pub enum LoopsCut {
+    /// The triangles, by the places of their corners among those of all loops, from 0.
+    Cut(Vec<Ear>),
+    /// The polygon can't be cut.
+    Stuck,
+    /// The inner loops can't be joined to the outline.
+    Apart,
+}
+
+/// The point at a place.
+pub fn point_at(points: &[Point], place: u32) -> Point
+    ensures { result ≡ point_at points.now place }
+{
+    match points.get(place as usize) {
+        Some(point) => *point,
+        None => Point { x: 0, y: 0, z: 0 },
+    }
+}
+
+/// The points at these places.
+pub fn points_at(alloc: Global, points: &[Point], places: &[u32]) -> Result<Vec<Point>, AllocError>
+    ensures { IfOk result (λ made. made.items ≡ map (point_at points.now) places.now) }
+{
+    let mut made = Vec::with_capacity(alloc, places.len())?;
+    for place in places {
+        made.push(point_at(points, *place))?;
+    }
+    Ok(made)
+}
+
+/// What the loops of a face hold, one loop after another.
+pub fn all_of_loops<T: Copy>(
+    alloc: Global,
+    outer: &[T],
+    inner: &[Vec<T>],
+) -> Result<Vec<T>, AllocError>
+    ensures { IfOk result (λ made. made.items ≡ outer.now
+        ++ flat_map (λ loop. loop) (map (λ loop. loop.items) inner.now)) }
+{
+    let mut made = Vec::new(alloc);
+    made.extend_from_slice(outer)?;
+    for ring in inner {
+        made.extend_from_slice(ring)?;
+    }
+    Ok(made)
+}
+
+/// The place that stands there.
+fn place_in(list: &[u32], at: u32) -> u32
+    ensures { result ≡ slice_index_or list.now at 0 }
+{
+    match list.get(at as usize) {
+        Some(place) => *place,
+        None => 0,
+    }
+}
+
+/// A triangle of the list, by the places that stand there.
+fn ear_by(list: &[u32], ear: Ear) -> Ear
+    ensures { result ≡ ear_by list.now ear }
+{
+    Ear {
+        a: place_in(list, ear.a),
+        b: place_in(list, ear.b),
+        c: place_in(list, ear.c),
+    }
+}
+
+/// Triangles of the list, by the places that stand there.
+fn ears_placed(alloc: Global, list: &[u32], ears: &[Ear]) -> Result<Vec<Ear>, AllocError>
+    ensures { IfOk result (λ made. made.items ≡ map (ear_by list.now) ears.now) }
+{
+    let mut made = Vec::with_capacity(alloc, ears.len())?;
+    for ear in ears {
+        made.push(ear_by(list, *ear))?;
+    }
+    Ok(made)
+}
+
+/// The triangles of the loops of a face as they are joined. None where their polygon can't be cut.
+fn joined_ears(
+    alloc: Global,
+    outer: &[Point],
+    inner: &[Vec<Point>],
+    list: &[u32],
+) -> Result<Option<Vec<Ear>>, AllocError>
+    requires outer_is { IsLoop outer.now }
+    requires inner_are { AreLoops (map (λ loop. loop.items) inner.now) }
+    requires few { length outer.now + corner_count (map (λ loop. loop.items) inner.now) ≤ most_corners }
+    requires joined { joined_of outer.now (map (λ loop. loop.items) inner.now) ≡ Some list.now }
+    ensures { IfOk result (λ found.
+        let ears = ears_by outer.now (map (λ loop. loop.items) inner.now) list.now in
+        MatchOption found (ears ≡ None) (λ made. ears ≡ Some made.items)) }
+{
+    let all = all_of_loops(alloc, outer, inner)?;
+    let corners = points_at(alloc, &all, list)?;
+    match cut(alloc, &corners) {
+        Ok(ears) => Ok(Some(ears_placed(alloc, list, &ears)?)),
+        Err(CutFault::Stuck) => Ok(None),
+        Err(CutFault::Memory) => Err(AllocError),
+    }
+}
+
+/// What comes of a face without inner loops.
+fn cut_outline(alloc: Global, outer: &[Point]) -> Result<LoopsCut, AllocError>
+    requires outer_is { IsLoop outer.now }
+    requires few { length outer.now ≤ most_corners }
+    ensures { IfOk result (IsLoopsCut outer.now []) }
+{
+    match cut(alloc, outer) {
+        Ok(ears) => Ok(LoopsCut::Cut(ears)),
+        Err(CutFault::Stuck) => Ok(LoopsCut::Stuck),
+        Err(CutFault::Memory) => Err(AllocError),
+    }
+}
+
+/// What comes of the loops of a face that has inner ones.
+fn cut_joined(
+    alloc: Global,
+    outer: &[Point],
+    inner: &[Vec<Point>],
+) -> Result<LoopsCut, AllocError>
+    requires outer_is { IsLoop outer.now }
+    requires inner_are { AreLoops (map (λ loop. loop.items) inner.now) }
+    requires few { length outer.now + corner_count (map (λ loop. loop.items) inner.now) ≤ most_corners }
+    requires some { 0 < length inner.now }
+    ensures { IfOk result (IsLoopsCut outer.now (map (λ loop. loop.items) inner.now)) }
+{
+    match join_loops(alloc, outer, inner) {
+        Ok(list) => match joined_ears(alloc, outer, inner, &list)? {
+            Some(ears) => Ok(LoopsCut::Cut(ears)),
+            None => Ok(LoopsCut::Stuck),
+        },
+        Err(BridgeError::Stuck) => Ok(LoopsCut::Apart),
+        Err(BridgeError::Memory) => Err(AllocError),
+    }
+}
+
+/// The triangles of a face by the points of its loops, each of three corners or more: those of its outline or, where it
+/// has inner loops, of the list to which bridges join them (IFC4 ADD2 TC1, IfcIndexedPolygonalFaceWithVoids).
+pub fn cut_loops(
+    alloc: Global,
+    outer: &[Point],
+    inner: &[Vec<Point>],
+) -> Result<LoopsCut, AllocError>
+    requires outer_is { IsLoop outer.now }
+    requires inner_are { AreLoops (map (λ loop. loop.items) inner.now) }
+    requires few { length outer.now + corner_count (map (λ loop. loop.items) inner.now) ≤ most_corners }
+    ensures { IfOk result (IsLoopsCut outer.now (map (λ loop. loop.items) inner.now)) }
+{
+    if inner.is_empty() {
+        cut_outline(alloc, outer)
+    } else {
+        cut_joined(alloc, outer, inner)
+    }
+}
