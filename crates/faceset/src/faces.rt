@@ -9,7 +9,7 @@ ghost use Rattle.faceset.specs.inner.Cuts.{IsOutcome, IsCounted, IsUnread, AreRe
 
 use crate::face_corners::has_many_corners;
 use crate::naming::corner;
-use crate::polygons::{LoopsCut, all_of_loops, cut_loops, point_at};
+use crate::polygons::{LoopsCut, add_loops, cut_loops, point_at};
 use crate::sets::{outline, spelled_loops};
 use bim_model::{Point, Triangle};
 use ear_cut::Ear;
@@ -159,7 +159,8 @@ pub fn cut_face(
     };
     match cut_loops(alloc, &loops.outer, &loops.inner)? {
         LoopsCut::Cut(ears) => {
-            let corners = all_of_loops(alloc, &loops.outer, &loops.inner)?;
+            let mut corners = loops.outer;
+            add_loops(&mut corners, &loops.inner)?;
             Ok(Outcome::Cut(triangles_of(alloc, &corners, &ears)?))
         }
         LoopsCut::Stuck => Ok(Outcome::Stuck),

@@ -23,7 +23,7 @@ pub use face_corners::{MOST_CORNERS, has_many_corners};
 pub use face_counts::triangle_count;
 pub use indexes::place_of;
 pub use learnt::Learnt;
-pub use polygons::{LoopsCut, all_of_loops, cut_loops, point_at, points_at};
+pub use polygons::{LoopsCut, add_loops, cut_loops, point_at, points_at};
 pub use set_surface::set_triangles;
 pub use sets::{is_face, is_polygonal, is_set, numbering, outline, spelled_loops};
 pub use stuck::{has_unbridged, least_stuck};

@@ -1,5 +1,5 @@
 //! The loops of a face as one polygon, cut into triangles.
-ghost use Rattle.std.specs.Prelude.{◌≡◌, ◌≤◌, ◌+◌, ◌++◌, length, map, IfOk, MatchOption, None, Some, slice_index_or};
+ghost use Rattle.std.specs.Prelude.{◌≡◌, ◌≤◌, ◌+◌, ◌++◌, length, map, IfOk, OnOk, MatchOption, None, Some, slice_index_or};
 ghost use Rattle.std.specs.List.{flat_map};
 ghost use Rattle.ear_cut.specs.Areas.{point_at};
 ghost use Rattle.void_bridge.specs.HoleLoops.{corner_count, IsLoop, AreLoops};
@@ -45,21 +45,15 @@ pub fn points_at(alloc: Global, points: &[Point], places: &[u32]) -> Result<Vec<
     Ok(made)
 }
 
-/// What the loops of a face hold, one loop after another.
-pub fn all_of_loops<T: Copy>(
-    alloc: Global,
-    outer: &[T],
-    inner: &[Vec<T>],
-) -> Result<Vec<T>, AllocError>
-    ensures { IfOk result (λ made. made.items ≡ outer.now
+/// Adds what the inner loops of a face hold, one loop after another, to what its outline holds.
+pub fn add_loops<T: Copy>(all: &mut Vec<T>, inner: &[Vec<T>]) -> Result<(), AllocError>
+    ensures { OnOk result (all.new.items ≡ all.old.items
         ++ flat_map (λ loop. loop) (map (λ loop. loop.items) inner.now)) }
 {
-    let mut made = Vec::new(alloc);
-    made.extend_from_slice(outer)?;
     for ring in inner {
-        made.extend_from_slice(ring)?;
+        all.extend_from_slice(ring)?;
     }
-    Ok(made)
+    Ok(())
 }
 
 /// The place that stands there.
@@ -109,7 +103,9 @@ fn joined_ears(
         let ears = ears_by outer.now (map (λ loop. loop.items) inner.now) list.now in
         MatchOption found (ears ≡ None) (λ made. ears ≡ Some made.items)) }
 {
-    let all = all_of_loops(alloc, outer, inner)?;
+    let mut all = Vec::new(alloc);
+    all.extend_from_slice(outer)?;
+    add_loops(&mut all, inner)?;
     let corners = points_at(alloc, &all, list)?;
     match cut(alloc, &corners) {
         Ok(ears) => Ok(Some(ears_placed(alloc, list, &ears)?)),

@@ -74,13 +74,13 @@ abbrev pub CornersStage : List Instance → Stage
 CornersStage world fault = (fault ≡ faults.TooMany many.Corners) × (id : ℕ) × Used world id
     × Finds world id HasManyCorners
 
--- the fault of a face that gives no triangles: its loops can't be joined, or else their polygon can't be cut
+-- the fault of a face that can't be cut: with the points of a set its loops can't be joined, or else they can with all
 abbrev pub StuckFault : List Instance → Mode → Scale → ℕ → UploadFault → Type 0
 StuckFault world mode scale id fault =
     (IsUnbridgedFace world scale mode id × (fault ≡ faults.VoidedFace id))
     ⊎ ((IsUnbridgedFace world scale mode id → ⊥) × (fault ≡ faults.FaceStuck id))
 
--- a face that gives no triangles
+-- a face that can't be cut
 abbrev pub StuckStage : List Instance → Mode → Scale → Stage
 StuckStage world mode scale = LeastFault (IsStuckFace world scale mode) (StuckFault world mode scale)
 
