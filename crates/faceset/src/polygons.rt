@@ -1,5 +1,5 @@
 //! The loops of a face as one polygon, cut into triangles.
-ghost use Rattle.std.specs.Prelude.{◌≡◌, ◌≤◌, ◌+◌, ◌++◌, length, map, IfOk, OnOk, MatchOption, None, Some, slice_index_or};
+ghost use Rattle.std.specs.Prelude.{◌≡◌, ◌<◌, ◌≤◌, ◌+◌, ◌++◌, [], length, map, IfOk, OnOk, MatchOption, None, Some, slice_index_or};
 ghost use Rattle.std.specs.List.{flat_map};
 ghost use Rattle.ear_cut.specs.Areas.{point_at};
 ghost use Rattle.void_bridge.specs.HoleLoops.{corner_count, IsLoop, AreLoops};
