@@ -36,8 +36,8 @@ any_mapped f P (y ∷ xs) (suc i) x lt at h = let r = any_mapped f P xs i x (ome
 -- .. of lists joined end to end
 pub any_flat : {X : Type 0} (P : X → Type 0) (xss : List (List X)) → Any (Any P) xss → Any P (flat_map (λ (xs : List X). xs) xss)
 any_flat P [] any = absurd (let lt = any.2 in omega (arith, lt))
-any_flat {X} P (xs ∷ xss) any = from any.0 any.1 any.2 any.3 any.4
+any_flat {X} P (xs ∷ xss) any = from (any_flat P xss) any.0 any.1 any.2 any.3 any.4
   where
-    from : (k : ℕ) (ys : List X) → k < length (xs ∷ xss) → get_or (xs ∷ xss) k ys ≡ ys → Any P ys → Any P (xs ++ flat_map (λ (xs : List X). xs) xss)
-    from zero ys lt e h = any_left P xs (flat_map (λ (xs : List X). xs) xss) (subst (Any P) (sym e) h)
-    from (suc k) ys lt e h = any_right P xs (flat_map (λ (xs : List X). xs) xss) (any_flat P xss (k, ys, omega (arith, lt), e, h))
+    from : (Any (Any P) xss → Any P (flat_map (λ (xs : List X). xs) xss)) → (k : ℕ) (ys : List X) → k < length (xs ∷ xss) → get_or (xs ∷ xss) k ys ≡ ys → Any P ys → Any P (xs ++ flat_map (λ (xs : List X). xs) xss)
+    from rest zero ys lt e h = any_left P xs (flat_map (λ (xs : List X). xs) xss) (subst (Any P) (sym e) h)
+    from rest (suc k) ys lt e h = any_right P xs (flat_map (λ (xs : List X). xs) xss) (rest (k, ys, omega (arith, lt), e, h))

@@ -18,7 +18,7 @@ use Rattle.faceset.proofs.Zips.{zip_all}
 use Rattle.faceset.proofs.Loops.{all_cornered}
 use Rattle.faceset.proofs.Corners.{corner_has}
 
-point_has : (P : Point → Type 0) → P nobody.point → (corners : List Point) → All P corners → (place : ℕ) → P (point_at corners place)
+pub point_has : (P : Point → Type 0) → P nobody.point → (corners : List Point) → All P corners → (place : ℕ) → P (point_at corners place)
 point_has P origin corners all place = from (cases_lt place (length corners))
   where
     from : (place < length corners) ⊎ (length corners ≤ place) → P (point_at corners place)

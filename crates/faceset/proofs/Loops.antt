@@ -4,6 +4,7 @@ use Rattle.std.specs.Option.{option_map, option_and_then}
 use Rattle.std.specs.List.{AllZip, All, flat_map}
 use Rattle.std.proofs.lemmas.List.{length-append, length-map}
 use Rattle.std.proofs.lemmas.List.Sums.{sum_by-cons}
+use Rattle.std.proofs.lemmas.List.Elements.{All-cons}
 use Rattle.p21_values.specs.declared.value.Value21.{Value21}
 use Rattle.p21_values.specs.declared.value.Instance.{Instance}
 use Rattle.bim_model.specs.declared.geometry.Point.{Point}
@@ -57,11 +58,9 @@ loops_count R (xs ∷ xss) (loop ∷ loops) are =
 pub loops_long : (R : Value21 → Point → Type 0) (xss : List (List Value21)) (loops : List (List Point)) → AllZip (AllZip R) xss loops → AreLoops loops → All (λ (xs : List Value21). 2 < length xs) xss
 loops_long R [] loops are all = λ k d lt. absurd (omega (arith, lt))
 loops_long R (xs ∷ xss) [] are all = absurd are
-loops_long R (xs ∷ xss) (loop ∷ loops) are all = each
-  where
-    each : All (λ (xs : List Value21). 2 < length xs) (xs ∷ xss)
-    each zero d lt = let l = zip_length R xs loop are.0 in let h = (all 0 loop (omega arith)).three in omega (arith, l, h)
-    each (suc k) d lt = loops_long R xss loops are.1 (λ j e m. all (suc j) e (omega (arith, m))) k d (omega (arith, lt))
+loops_long R (xs ∷ xss) (loop ∷ loops) are all =
+    All-cons (λ (xs : List Value21). 2 < length xs) xs xss (let l = zip_length R xs loop are.0 in let h = (all 0 loop (omega arith)).three in omega (arith, l, h))
+    (loops_long R xss loops are.1 (λ k d lt. all (suc k) d (omega (arith, lt))))
 
 -- ---- the triangles of loops
 joined_counted : (outer : List Point) (inner : List (List Point)) (list : List ℕ) (ears : List Ear) → 3 ≤ length outer → joined_of outer inner ≡ Some list → ears_by outer inner list ≡ Some ears

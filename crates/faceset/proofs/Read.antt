@@ -1,5 +1,5 @@
 -- The loops of a face as they are read and cut.
-use Rattle.std.proofs.Common.{◌≡◌, ℕ, ◌+◌, ◌<◌, ◌≤◌, List, [], ◌∷◌, ◌++◌, length, map, Option, Some, None, Any, Vec, Global, sym, ap, ◌∙◌, subst, arith}
+use Rattle.std.proofs.Common.{◌≡◌, ℕ, ◌+◌, ◌<◌, ◌≤◌, List, [], ◌∷◌, ◌++◌, length, map, Option, Some, None, Any, Vec, Global, Result, Ok, Err, IfOk, MatchOption, sym, ap, ◌∙◌, subst, arith}
 use Rattle.std.specs.List.{All, AllZip}
 use Rattle.std.proofs.lemmas.List.{length-append, map-append}
 use Rattle.std.proofs.lemmas.List.Elements.{All-push}
@@ -8,6 +8,7 @@ use Rattle.p21_values.specs.declared.value.Instance.{Instance}
 use Rattle.p21_values.specs.Attributes.{items_in}
 use Rattle.bim_model.specs.declared.geometry.Point.{Point}
 use Rattle.bim_model.specs.declared.geometry.Triangle.{Triangle}
+use Rattle.bim_model.specs.Points.{IsGridPoint}
 use Rattle.ear_cut.specs.declared.ears.Ear.{Ear}
 use Rattle.void_bridge.specs.HoleLoops.{corner_count, IsLoop, AreLoops}
 use Rattle.faceset.specs.declared.faces.FaceLoops.{FaceLoops}
@@ -37,6 +38,15 @@ loops_more numbers points rows row old new made grown here are =
           (subst (λ (vs : List (List Value21)). AllZip (AreCorners numbers points) vs (items_of old ++ made.items ∷ [])) (sym (map-append items_in rows (row ∷ []))) z),
       subst AreLoops (sym e) (All-push IsLoop (items_of old) made.items are.1 here.1),
     )
+
+-- ---- one loop
+pub loop_read : {E : Type 0} (numbers : Option (List Value21)) (points : List Point) (indexes : List Value21) (r : Result (Option (Vec Point Global)) E) → 3 ≤ length indexes
+    → IfOk r (λ found. MatchOption found (Any (IsMisnamed numbers (length points)) indexes) (λ made. AreCorners numbers points indexes made.items × All IsGridPoint made.items))
+    → IfOk r (λ found. MatchOption found (IsUnread numbers points indexes) (λ made. AreCorners numbers points indexes made.items × IsLoop made.items))
+loop_read numbers points indexes (Err e) three h = h
+loop_read numbers points indexes (Ok None) three h = λ long. h
+loop_read numbers points indexes (Ok (Some made)) three h =
+    (h.0, record { three = (let l = zip_length (IsCorner numbers points) indexes made.items h.0 in omega (arith, l, three)); in_grid = h.1 })
 
 -- ---- loops that aren't ready
 pub outline_unready : (numbers : Option (List Value21)) (points : List Point) (face : Instance) → IsUnread numbers points (outline face) → IsOutlined face → HasMisnamed numbers points face

@@ -7,6 +7,8 @@ use Rattle.bim_model.specs.declared.geometry.Point.{Point}
 use Rattle.ear_cut.specs.declared.ears.Ear.{Ear}
 use Rattle.ear_cut.specs.Removal.{cut_of}
 use Rattle.void_bridge.specs.Bridges.{points_at, joined_of}
+use Rattle.faceset.specs.declared.polygons.LoopsCut.{LoopsCut}
+use Rattle.faceset.specs.declared.polygons.LoopsCut.TheVariants as loops
 
 -- the corners of a face: those of its outline, and then of its inner loops, one loop after another
 abbrev pub face_points : List Point → List (List Point) → List Point
@@ -34,3 +36,9 @@ ears_of outer (loop ∷ loops) = option_and_then (ears_by outer (loop ∷ loops)
 abbrev pub AreApart : List Point → List (List Point) → Type 0
 AreApart outer [] = ⊥
 AreApart outer (loop ∷ loops) = joined_of outer (loop ∷ loops) ≡ None
+
+-- what comes of loops of points
+abbrev pub IsLoopsCut : List Point → List (List Point) → LoopsCut → Type 0
+IsLoopsCut outer inner (loops.Cut ears) = ears_of outer inner ≡ Some ears.items
+IsLoopsCut outer inner loops.Stuck = (ears_of outer inner ≡ None) × (AreApart outer inner → ⊥)
+IsLoopsCut outer inner loops.Apart = AreApart outer inner

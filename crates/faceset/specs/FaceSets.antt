@@ -14,7 +14,7 @@ use Rattle.p21_values.specs.Values.{reference_of, items_of}
 use Rattle.p21_values.specs.Attributes.{items_in, listed, target_at, led_to}
 use Rattle.ear_cut.specs.declared.ears.Ear.{Ear}
 use Rattle.ear_cut.specs.Areas.{point_at}
-use Rattle.faceset.specs.declared.face_corners.TheConstants.{MOST_CORNERS}
+use Rattle.faceset.specs.declared.loop_corners.TheConstants.{MOST_CORNERS}
 use Rattle.faceset.specs.FacePolygons.{face_points, ears_of, AreApart}
 use Rattle.faceset.specs.Indexes.{PointsAt, PointsNowhere}
 

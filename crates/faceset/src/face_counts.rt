@@ -9,7 +9,8 @@ use p21_table::{Exchange, InstanceRef, ValueRef, Values};
 /// What inner loops add to so many triangles. None where they are more than `most`.
 fn count_loops(rows: &Values<'_>, before: u64, most: u64) -> Option<u64>
     requires { before ≤ most }
-    ensures some { IfSome result (λ n. (n ≡ before + sum_by loop_count (map items_in rows.now)) × (n ≤ most)) }
+    ensures some { IfSome result (λ n. (n ≡ before + sum_by loop_count (map items_in rows.now))
+        × (n ≤ most)) }
     ensures none { IfNone result (most < before + sum_by loop_count (map items_in rows.now)) }
 {
     let mut count = before;

@@ -4,10 +4,11 @@ ghost use Rattle.std.specs.List.{AllZip};
 ghost use Rattle.bim_model.specs.Points.{IsGridPoint};
 ghost use Rattle.p21_values.specs.Attributes.{items_in};
 ghost use Rattle.void_bridge.specs.HoleLoops.{IsLoop, AreLoops};
+ghost use Rattle.faceset.specs.FacePolygons.{face_points};
 ghost use Rattle.faceset.specs.FaceSets.{AreCorners, triangle_of, IsMisnamed};
 ghost use Rattle.faceset.specs.inner.Cuts.{IsOutcome, IsCounted, IsUnread, AreRead};
 
-use crate::face_corners::has_many_corners;
+use crate::loop_corners::has_many_corners;
 use crate::naming::corner;
 use crate::polygons::{LoopsCut, add_loops, cut_loops, point_at};
 use crate::sets::{outline, spelled_loops};
@@ -140,6 +141,17 @@ fn triangles_of(alloc: Global, corners: &[Point], ears: &[Ear]) -> Result<Vec<Tr
     Ok(made)
 }
 
+/// The triangles of a face, by the places of their corners among those of its loops.
+fn made_of(alloc: Global, loops: FaceLoops, ears: &[Ear]) -> Result<Vec<Triangle>, AllocError>
+    ensures { IfOk result (λ made. made.items ≡ map (triangle_of
+        (face_points loops.outer.items (map (λ ring. ring.items) loops.inner.items))) ears.now) }
+{
+    let FaceLoops { outer, inner } = loops;
+    let mut corners = outer;
+    add_loops(&mut corners, &inner)?;
+    triangles_of(alloc, &corners, ears)
+}
+
 /// What comes of a face of a set with these numbers of points and these points.
 pub fn cut_face(
     alloc: Global,
@@ -158,11 +170,7 @@ pub fn cut_face(
         return Ok(Outcome::Unready);
     };
     match cut_loops(alloc, &loops.outer, &loops.inner)? {
-        LoopsCut::Cut(ears) => {
-            let mut corners = loops.outer;
-            add_loops(&mut corners, &loops.inner)?;
-            Ok(Outcome::Cut(triangles_of(alloc, &corners, &ears)?))
-        }
+        LoopsCut::Cut(ears) => Ok(Outcome::Cut(made_of(alloc, loops, &ears)?)),
         LoopsCut::Stuck => Ok(Outcome::Stuck),
         LoopsCut::Apart => Ok(Outcome::Unbridged),
     }

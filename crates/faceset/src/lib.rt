@@ -3,7 +3,7 @@
 #![tactic(auto)]
 
 mod bad;
-mod face_corners;
+mod loop_corners;
 mod face_counts;
 mod faces;
 mod indexes;
@@ -19,7 +19,7 @@ mod stuck;
 mod triangulated;
 
 pub use bad::has_bad_index;
-pub use face_corners::{MOST_CORNERS, has_many_corners};
+pub use loop_corners::{MOST_CORNERS, has_many_corners};
 pub use face_counts::triangle_count;
 pub use indexes::place_of;
 pub use learnt::Learnt;

@@ -1,12 +1,13 @@
 //! The loops of a face as one polygon, cut into triangles.
-ghost use Rattle.std.specs.Prelude.{◌≡◌, ◌<◌, ◌≤◌, ◌+◌, ◌++◌, [], length, map, IfOk, OnOk, MatchOption, None, Some, slice_index_or};
+ghost use Rattle.std.specs.Prelude.{◌≡◌, ◌<◌, ◌≤◌, ◌+◌, ◌++◌, [], length, map, All, IfOk, OnOk, MatchOption, None, Some, slice_index_or};
 ghost use Rattle.std.specs.List.{flat_map};
+ghost use Rattle.bim_model.specs.Points.{IsGridPoint};
 ghost use Rattle.ear_cut.specs.Areas.{point_at};
+ghost use Rattle.ear_cut.specs.Removal.{cut_of};
 ghost use Rattle.void_bridge.specs.HoleLoops.{corner_count, IsLoop, AreLoops};
-ghost use Rattle.void_bridge.specs.Bridges.{joined_of};
-ghost use Rattle.faceset.specs.FacePolygons.{ear_by, ears_by};
+ghost use Rattle.void_bridge.specs.Bridges.{joined_of, points_at as bridged_points};
+ghost use Rattle.faceset.specs.FacePolygons.{ear_by, ears_by, IsLoopsCut};
 ghost use Rattle.faceset.specs.FaceSets.{most_corners};
-ghost use Rattle.faceset.specs.inner.Cuts.{IsLoopsCut};
 
 use bim_model::Point;
 use ear_cut::{CutFault, Ear, cut};
@@ -45,8 +46,8 @@ pub fn points_at(alloc: Global, points: &[Point], places: &[u32]) -> Result<Vec<
     Ok(made)
 }
 
-/// Adds what the inner loops of a face hold, one loop after another, to what its outline holds.
-pub fn add_loops<T: Copy>(all: &mut Vec<T>, inner: &[Vec<T>]) -> Result<(), AllocError>
+/// Adds the corners of the inner loops of a face, one loop after another, to those of its outline.
+pub fn add_loops(all: &mut Vec<Point>, inner: &[Vec<Point>]) -> Result<(), AllocError>
     ensures { OnOk result (all.new.items ≡ all.old.items
         ++ flat_map (λ loop. loop) (map (λ loop. loop.items) inner.now)) }
 {
@@ -88,6 +89,57 @@ fn ears_placed(alloc: Global, list: &[u32], ears: &[Ear]) -> Result<Vec<Ear>, Al
     Ok(made)
 }
 
+/// The triangles of a polygon. None where it can't be cut.
+fn ears_of_polygon(alloc: Global, corners: &[Point]) -> Result<Option<Vec<Ear>>, AllocError>
+    requires three { 3 ≤ length corners.now }
+    requires few { length corners.now ≤ 65536 }
+    requires in_grid { All IsGridPoint corners.now }
+    ensures { IfOk result (λ found. MatchOption found (cut_of corners.now ≡ None)
+        (λ ears. cut_of corners.now ≡ Some ears.items)) }
+{
+    match cut(alloc, corners) {
+        Ok(ears) => Ok(Some(ears)),
+        Err(CutFault::Stuck) => Ok(None),
+        Err(CutFault::Memory) => Err(AllocError),
+    }
+}
+
+/// The list to which bridges join the loops of a face. None where they can't be joined.
+fn list_of(
+    alloc: Global,
+    outer: &[Point],
+    inner: &[Vec<Point>],
+) -> Result<Option<Vec<u32>>, AllocError>
+    requires outer_is { IsLoop outer.now }
+    requires inner_are { AreLoops (map (λ loop. loop.items) inner.now) }
+    requires few { length outer.now + corner_count (map (λ loop. loop.items) inner.now) ≤ most_corners }
+    ensures { IfOk result (λ found.
+        let joined = joined_of outer.now (map (λ loop. loop.items) inner.now) in
+        MatchOption found (joined ≡ None) (λ list. joined ≡ Some list.items)) }
+{
+    match join_loops(alloc, outer, inner) {
+        Ok(list) => Ok(Some(list)),
+        Err(BridgeError::Stuck) => Ok(None),
+        Err(BridgeError::Memory) => Err(AllocError),
+    }
+}
+
+/// The points of a joined list.
+fn joined_points(
+    alloc: Global,
+    outer: &[Point],
+    inner: &[Vec<Point>],
+    list: &[u32],
+) -> Result<Vec<Point>, AllocError>
+    ensures { IfOk result (λ made. made.items
+        ≡ bridged_points outer.now (map (λ loop. loop.items) inner.now) list.now) }
+{
+    let mut all = Vec::new(alloc);
+    all.extend_from_slice(outer)?;
+    add_loops(&mut all, inner)?;
+    points_at(alloc, &all, list)
+}
+
 /// The triangles of the loops of a face as they are joined. None where their polygon can't be cut.
 fn joined_ears(
     alloc: Global,
@@ -103,14 +155,10 @@ fn joined_ears(
         let ears = ears_by outer.now (map (λ loop. loop.items) inner.now) list.now in
         MatchOption found (ears ≡ None) (λ made. ears ≡ Some made.items)) }
 {
-    let mut all = Vec::new(alloc);
-    all.extend_from_slice(outer)?;
-    add_loops(&mut all, inner)?;
-    let corners = points_at(alloc, &all, list)?;
-    match cut(alloc, &corners) {
-        Ok(ears) => Ok(Some(ears_placed(alloc, list, &ears)?)),
-        Err(CutFault::Stuck) => Ok(None),
-        Err(CutFault::Memory) => Err(AllocError),
+    let corners = joined_points(alloc, outer, inner, list)?;
+    match ears_of_polygon(alloc, &corners)? {
+        Some(ears) => Ok(Some(ears_placed(alloc, list, &ears)?)),
+        None => Ok(None),
     }
 }
 
@@ -120,10 +168,29 @@ fn cut_outline(alloc: Global, outer: &[Point]) -> Result<LoopsCut, AllocError>
     requires few { length outer.now ≤ most_corners }
     ensures { IfOk result (IsLoopsCut outer.now []) }
 {
-    match cut(alloc, outer) {
-        Ok(ears) => Ok(LoopsCut::Cut(ears)),
-        Err(CutFault::Stuck) => Ok(LoopsCut::Stuck),
-        Err(CutFault::Memory) => Err(AllocError),
+    match ears_of_polygon(alloc, outer)? {
+        Some(ears) => Ok(LoopsCut::Cut(ears)),
+        None => Ok(LoopsCut::Stuck),
+    }
+}
+
+/// What comes of the loops of a face as they are joined.
+fn cut_list(
+    alloc: Global,
+    outer: &[Point],
+    inner: &[Vec<Point>],
+    list: &[u32],
+) -> Result<LoopsCut, AllocError>
+    requires outer_is { IsLoop outer.now }
+    requires inner_are { AreLoops (map (λ loop. loop.items) inner.now) }
+    requires few { length outer.now + corner_count (map (λ loop. loop.items) inner.now) ≤ most_corners }
+    requires some { 0 < length inner.now }
+    requires joined { joined_of outer.now (map (λ loop. loop.items) inner.now) ≡ Some list.now }
+    ensures { IfOk result (IsLoopsCut outer.now (map (λ loop. loop.items) inner.now)) }
+{
+    match joined_ears(alloc, outer, inner, list)? {
+        Some(ears) => Ok(LoopsCut::Cut(ears)),
+        None => Ok(LoopsCut::Stuck),
     }
 }
 
@@ -139,13 +206,9 @@ fn cut_joined(
     requires some { 0 < length inner.now }
     ensures { IfOk result (IsLoopsCut outer.now (map (λ loop. loop.items) inner.now)) }
 {
-    match join_loops(alloc, outer, inner) {
-        Ok(list) => match joined_ears(alloc, outer, inner, &list)? {
-            Some(ears) => Ok(LoopsCut::Cut(ears)),
-            None => Ok(LoopsCut::Stuck),
-        },
-        Err(BridgeError::Stuck) => Ok(LoopsCut::Apart),
-        Err(BridgeError::Memory) => Err(AllocError),
+    match list_of(alloc, outer, inner)? {
+        Some(list) => cut_list(alloc, outer, inner, &list),
+        None => Ok(LoopsCut::Apart),
     }
 }
 
@@ -161,7 +224,7 @@ pub fn cut_loops(
     requires few { length outer.now + corner_count (map (λ loop. loop.items) inner.now) ≤ most_corners }
     ensures { IfOk result (IsLoopsCut outer.now (map (λ loop. loop.items) inner.now)) }
 {
-    if inner.is_empty() {
+    if inner.len() == 0 {
         cut_outline(alloc, outer)
     } else {
         cut_joined(alloc, outer, inner)

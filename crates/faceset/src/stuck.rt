@@ -1,5 +1,5 @@
 //! Faces that can't be cut.
-ghost use Rattle.std.specs.Prelude.{◌<◌, ℕ, All, Contains, filter_map, IfOk, MatchOption, option_copied};
+ghost use Rattle.std.specs.Prelude.{◌≡◌, ◌<◌, ℕ, Some, All, Contains, filter_map, IfOk, MatchOption, option_copied};
 ghost use Rattle.std.specs.Bool.{MatchBool};
 ghost use Rattle.std.specs.List.Sorted.{IsStrictlyIncreasing};
 ghost use Rattle.bim_model.specs.Points.{IsGridPoint};
@@ -83,13 +83,23 @@ pub fn least_stuck(
     first_in(alloc, exchange, numbers.as_deref(), points, &ids)
 }
 
+/// Whether the value refers to that number.
+fn refers_to(value: &ValueRef<'_>, id: u64) -> bool
+    ensures { MatchBool result (reference_of value.now ≡ Some id) (reference_of value.now ≡ Some id → ⊥) }
+{
+    match value.reference() {
+        Some(named) => named == id,
+        None => false,
+    }
+}
+
 /// Whether one of the values refers to that number.
 fn is_named(values: &Values<'_>, id: u64) -> bool
     ensures { MatchBool result (Contains (filter_map reference_of values.now) id)
         (Contains (filter_map reference_of values.now) id → ⊥) }
 {
     for value in values.iter() {
-        if value.reference() == Some(id) {
+        if refers_to(&value, id) {
             return true;
         }
     }
@@ -133,7 +143,10 @@ pub fn has_unbridged(
     ensures { IfOk result (λ found. MatchBool found (HasUnbridged exchange.now points.now set.now id)
         (HasUnbridged exchange.now points.now set.now id → ⊥)) }
 {
-    if !is_polygonal(set) || !is_named(&set.listed(2), id) {
+    if !is_polygonal(set) {
+        return Ok(false);
+    }
+    if !is_named(&set.listed(2), id) {
         return Ok(false);
     }
     let numbers = placed_numbering(alloc, set)?;

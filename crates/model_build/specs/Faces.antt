@@ -20,15 +20,15 @@ abbrev pub HasManyCorners : Instance → Type 0
 HasManyCorners i = (is_face i ≡ true) × (most_corners < length (all_corners i))
 
 -- the set of that number has that face, of which something holds by the set's points
-abbrev pub ShowsFace : (Option (List Value21) → List Point → Instance → Type 0) → List Instance → Scale → Mode
-    → ℕ → ℕ → Type 0
+abbrev pub ShowsFace : (Option (List Value21) → List Point → Instance → Type 0) → List Instance → Scale
+    → Mode → ℕ → ℕ → Type 0
 ShowsFace Is world scale mode set id =
     Finds world set (λ s. (points : List Point) × SetPoints world scale mode s points
     × HasFace Is world points s id)
 
 -- it holds of a face of a set that is used
-abbrev pub IsFaceOfUsed : (Option (List Value21) → List Point → Instance → Type 0) → List Instance → Scale → Mode
-    → ℕ → Type 0
+abbrev pub IsFaceOfUsed : (Option (List Value21) → List Point → Instance → Type 0) → List Instance → Scale
+    → Mode → ℕ → Type 0
 IsFaceOfUsed Is world scale mode id = (set : ℕ) × IsUsedSet world set × ShowsFace Is world scale mode set id
 
 -- a face of a set that is used can't be cut

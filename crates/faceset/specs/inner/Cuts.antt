@@ -1,5 +1,5 @@
 -- What the cutting of faces answers. No public contract cites it.
-use Rattle.std.specs.Prelude.{◌≡◌, ◌⊎◌, ℕ, ◌<◌, List, length, map, Option, Some, None, All, Any}
+use Rattle.std.specs.Prelude.{◌≡◌, ◌⊎◌, ℕ, ◌<◌, List, length, map, Option, Some, None, Any}
 use Rattle.std.specs.Bool.{⊤}
 use Rattle.std.specs.List.{flat_map}
 use Rattle.p21_values.specs.declared.value.Value21.{Value21}
@@ -10,20 +10,11 @@ use Rattle.void_bridge.specs.HoleLoops.{IsLoop, AreLoops}
 use Rattle.faceset.specs.declared.faces.FaceLoops.{FaceLoops}
 use Rattle.faceset.specs.declared.faces.Outcome.{Outcome}
 use Rattle.faceset.specs.declared.faces.Outcome.TheVariants as outcome
-use Rattle.faceset.specs.declared.polygons.LoopsCut.{LoopsCut}
-use Rattle.faceset.specs.declared.polygons.LoopsCut.TheVariants as loops
-use Rattle.faceset.specs.FacePolygons.{ears_of, AreApart}
 use Rattle.faceset.specs.FaceSets.{all_corners, IsMisnamed, IsOutlined, AreLoopsOf, IsCut, IsStuck, IsUnbridged, face_count}
 
 -- how many corners loops have, as they are spelled
 abbrev pub corner_total : List Value21 → ℕ
 corner_total rows = length (flat_map (λ (loop : List Value21). loop) (map items_in rows))
-
--- what comes of loops of points
-abbrev pub IsLoopsCut : List Point → List (List Point) → LoopsCut → Type 0
-IsLoopsCut outer inner (loops.Cut ears) = ears_of outer inner ≡ Some ears.items
-IsLoopsCut outer inner loops.Stuck = (ears_of outer inner ≡ None) × (AreApart outer inner → ⊥)
-IsLoopsCut outer inner loops.Apart = AreApart outer inner
 
 -- a loop has too few corners, or an index of it names no point
 abbrev pub IsUnread : Option (List Value21) → List Point → List Value21 → Type 0

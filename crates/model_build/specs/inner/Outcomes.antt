@@ -90,8 +90,8 @@ AreSound world scale mode listed =
     → IsSoundSet world scale mode s
 
 -- the set of that number, whose points are on the grid, has that face, of which something holds
-abbrev pub ShowsFaceSet : (Option (List Value21) → List Point → Instance → Type 0) → List Instance → Scale → Mode
-    → ℕ → ℕ → Type 0
+abbrev pub ShowsFaceSet : (Option (List Value21) → List Point → Instance → Type 0) → List Instance → Scale
+    → Mode → ℕ → ℕ → Type 0
 ShowsFaceSet Is world scale mode set id =
     Finds world set (λ s. (is_set s ≡ true) × (list : ℕ) × (reference_at s 0 ≡ Some list)
     × (points : List Point) × ListsPoints world scale mode list points × HasFace Is world points s id)

@@ -21,7 +21,7 @@ loop-value-preserved c =
     let one = summed_more face_count c.args.exchange.now c.loop-value.yielded c.in-Some.value in
     let sum = c.loop-value.invariant.0 in
     let most = c.loop-value.invariant.1 in
-    let more = c.in-Some-2.ensures.some in
+    let more = c.in-Some-count_face.ensures.some in
     let is = more.0 in
     let within = more.1 in
     (omega (arith, one, sum, is), omega (arith, most, within))
