@@ -1,9 +1,11 @@
 -- The loops of a face that were read, one more.
-use Rattle.std.proofs.Common.{◌≡◌, ℕ, ◌+◌, ◌<◌, ◌≤◌, List, [], ◌∷◌, ◌++◌, length, map, Option, Vec, Global, sym, ap, ◌∙◌, subst, arith}
+use Rattle.std.proofs.Common.{◌≡◌, ℕ, ◌+◌, ◌<◌, ◌≤◌, List, [], ◌∷◌, ◌++◌, append_assoc, length, map, take, get_or, Option, Vec, Global, sym, ap, ◌∙◌, subst, arith}
 use Rattle.std.specs.List.{All, AllZip, flat_map}
-use Rattle.std.proofs.lemmas.List.{length-append, map-append, append-nil}
+use Rattle.std.proofs.lemmas.List.{length-append, map-append, append-nil, take_more}
 use Rattle.std.proofs.lemmas.List.Elements.{All-push}
 use Rattle.std.proofs.lemmas.List.Concat.{flat_map-append}
+use Rattle.bim_model.specs.declared.geometry.Point.{Point}
+use Rattle.ear_cut.specs.Areas.{point_at}
 use Rattle.p21_values.specs.declared.value.Value21.{Value21}
 use Rattle.p21_values.specs.Attributes.{items_in}
 use Rattle.faceset.specs.FaceSets.{NamesPoint, most_corners}
@@ -39,3 +41,29 @@ rings_more before old new made grown are three few = record {
   three = subst (λ (xss : List (List ℕ)). All (λ (xs : List ℕ). 2 < length xs) xss) (sym (items_push old new made grown)) (All-push (λ (xs : List ℕ). 2 < length xs) (items_of old) made.items are.three three);
   few = (let t = total_more old new made grown in omega (arith, t, few));
 }
+
+-- ---- the places of all loops, one loop more
+places_more : (vs : List (Vec ℕ Global)) (i : ℕ) (v : Vec ℕ Global) → i < length vs → v ≡ get_or vs i v → flat (items_of (take (i + 1) vs)) ≡ flat (items_of (take i vs)) ++ v.items
+places_more vs i v lt at =
+    let e : take (i + 1) vs ≡ take i vs ++ v ∷ [] = take_more vs i v lt ∙ ap (λ (u : Vec ℕ Global). take i vs ++ u ∷ []) (sym at) in
+    ap (λ (us : List (Vec ℕ Global)). flat (items_of us)) e
+    ∙ (ap flat (map-append (λ (u : Vec ℕ Global). u.items) (take i vs) (v ∷ []))
+    ∙ (flat_map-append (λ (xs : List ℕ). xs) (items_of (take i vs)) (v.items ∷ []) ∙ ap (λ (ps : List ℕ). flat (items_of (take i vs)) ++ ps) (append-nil v.items)))
+
+pub places_added : (first old new ring : List ℕ) (vs : List (Vec ℕ Global)) (i : ℕ) (v : Vec ℕ Global) → i < length vs → v ≡ get_or vs i v → ring ≡ v.items → new ≡ old ++ ring
+    → old ≡ first ++ flat (items_of (take i vs)) → new ≡ first ++ flat (items_of (take (i + 1) vs))
+places_added first old new ring vs i v lt at is grown before =
+    grown ∙ (ap (λ (ps : List ℕ). old ++ ps) is ∙ (ap (λ (ps : List ℕ). ps ++ v.items) before
+    ∙ (append_assoc first (flat (items_of (take i vs))) v.items ∙ ap (λ (ps : List ℕ). first ++ ps) (sym (places_more vs i v lt at)))))
+
+-- ---- the points of loops, one loop more
+pub rings_added : (points : List Point) (vs : List (Vec ℕ Global)) (i : ℕ) (v : Vec ℕ Global) (old new : List (Vec Point Global)) (made : Vec Point Global) (ring : List ℕ) → i < length vs → v ≡ get_or vs i v → ring ≡ v.items
+    → made.items ≡ map (point_at points) ring → new ≡ old ++ made ∷ [] → items_of old ≡ map (map (point_at points)) (items_of (take i vs)) → items_of new ≡ map (map (point_at points)) (items_of (take (i + 1) vs))
+rings_added points vs i v old new made ring lt at is are grown before =
+    let e : take (i + 1) vs ≡ take i vs ++ v ∷ [] = take_more vs i v lt ∙ ap (λ (u : Vec ℕ Global). take i vs ++ u ∷ []) (sym at) in
+    let f : items_of (take (i + 1) vs) ≡ items_of (take i vs) ++ v.items ∷ [] = ap items_of e ∙ map-append (λ (u : Vec ℕ Global). u.items) (take i vs) (v ∷ []) in
+    let g : made.items ≡ map (point_at points) v.items = are ∙ ap (map (point_at points)) is in
+    items_push old new made grown
+    ∙ (ap (λ (ps : List (List Point)). ps ++ made.items ∷ []) before
+    ∙ (ap (λ (ps : List Point). map (map (point_at points)) (items_of (take i vs)) ++ ps ∷ []) g
+    ∙ (sym (map-append (map (point_at points)) (items_of (take i vs)) (v.items ∷ [])) ∙ ap (map (map (point_at points))) (sym f))))

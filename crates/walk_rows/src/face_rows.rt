@@ -1,23 +1,24 @@
 //! The triangles of faces, as rows (IFC4 ADD2 TC1, IfcPolygonalFaceSet, IfcIndexedPolygonalFace,
 //! IfcIndexedPolygonalFaceWithVoids).
-ghost use Rattle.std.specs.Prelude.{◌≡◌, ◌<◌, ◌≤◌, ◌^◌, ◌++◌, ◌∷◌, [], List, Option, All, length, map, IfOk, IfSome, OnOk, option_copied};
+ghost use Rattle.std.specs.Prelude.{◌≡◌, ◌<◌, ◌≤◌, ◌+◌, ◌^◌, ◌++◌, ◌∷◌, [], List, Option, Some, All, length, map, IfOk, IfSome, OnOk, option_copied};
 ghost use Rattle.std.specs.Bool.{OnTrue};
-ghost use Rattle.std.specs.List.{AllZip};
+ghost use Rattle.std.specs.List.{AllZip, flat_map};
 ghost use Rattle.bim_model.specs.Points.{IsGridPoint};
 ghost use Rattle.p21_values.specs.declared.value.Value21.{Value21};
 ghost use Rattle.p21_values.specs.Attributes.{items_in, led_to};
 ghost use Rattle.ear_cut.specs.Areas.{point_at};
+ghost use Rattle.faceset.specs.FacePolygons.{ears_of};
 ghost use Rattle.faceset.specs.FaceSets.{NamesPoint, IsCut, Joined, most_corners};
 ghost use Rattle.walk_rows.specs.Rows.{AreNumbers, AddsRows, place_at, row_at, triangles_at};
 ghost use Rattle.walk_rows.specs.SetRows.{LeadsToFace};
-ghost use Rattle.walk_rows.specs.inner.LoopRows.{AreRings, NamesLoops, HasRings};
+ghost use Rattle.walk_rows.specs.inner.LoopRows.{AreRings, NamesLoops, HasRings, inner_of};
 
 use crate::row_places::place_named;
 use crate::triangle_rows::Row;
 use bim_model::Point;
 use ear_cut::Ear;
 use faceset::{
-    LoopsCut, MOST_CORNERS, add_loops, cut_loops, is_face, outline, points_at, spelled_loops,
+    LoopsCut, MOST_CORNERS, cut_loops, is_face, outline, points_at, spelled_loops,
 };
 use p21_table::{Exchange, InstanceRef, ValueRef, Values};
 use std::alloc::{AllocError, Global};
@@ -132,6 +133,19 @@ fn face_places(
     }
 }
 
+/// Which points the corners of a face are, one loop after another.
+fn all_places(places: LoopPlaces) -> Result<Vec<u32>, AllocError>
+    ensures { IfOk result (λ all. all.items
+        ≡ places.outer.items ++ flat_map (λ ring. ring) (map (λ ring. ring.items) places.inner.items)) }
+{
+    let LoopPlaces { outer, inner } = places;
+    let mut all = outer;
+    for ring in &inner {
+        all.extend_from_slice(ring)?;
+    }
+    Ok(all)
+}
+
 /// The points of loops.
 fn rings_at(
     alloc: Global,
@@ -179,6 +193,27 @@ fn add_ears(places: &[u32], ears: &[Ear], rows: &mut Vec<Row>) -> Result<(), All
     Ok(())
 }
 
+/// The triangles of a face, by places among all its corners. None where it can't be cut.
+fn face_ears(
+    alloc: Global,
+    points: &[Point],
+    places: &LoopPlaces,
+) -> Result<Option<Vec<Ear>>, AllocError>
+    requires in_grid { All IsGridPoint points.now }
+    requires rings { HasRings places.now }
+    ensures { IfOk result (λ found. IfSome found (λ ears. ears_of
+        (map (point_at points.now) places.now.outer.items)
+        (map (map (point_at points.now)) (inner_of places.now)) ≡ Some ears.items)) }
+{
+    let outer = points_at(alloc, points, &places.outer)?;
+    let inner = rings_at(alloc, points, &places.inner)?;
+    match cut_loops(alloc, &outer, &inner)? {
+        LoopsCut::Cut(ears) => Ok(Some(ears)),
+        LoopsCut::Stuck => Ok(None),
+        LoopsCut::Apart => Ok(None),
+    }
+}
+
 /// Adds the rows of a face. False where it has too few corners or too many, an index that names no point, or can't
 /// be cut.
 fn add_face(
@@ -198,18 +233,12 @@ fn add_face(
     let Some(places) = face_places(alloc, face, numbers, points.len())? else {
         return Ok(false);
     };
-    let outer = points_at(alloc, points, &places.outer)?;
-    let inner = rings_at(alloc, points, &places.inner)?;
-    match cut_loops(alloc, &outer, &inner)? {
-        LoopsCut::Cut(ears) => {
-            let mut all = places.outer;
-            add_loops(&mut all, &places.inner)?;
-            add_ears(&all, &ears, rows)?;
-            Ok(true)
-        }
-        LoopsCut::Stuck => Ok(false),
-        LoopsCut::Apart => Ok(false),
-    }
+    let Some(ears) = face_ears(alloc, points, &places)? else {
+        return Ok(false);
+    };
+    let all = all_places(places)?;
+    add_ears(&all, &ears, rows)?;
+    Ok(true)
 }
 
 /// Adds the rows of the face that a value refers to.
