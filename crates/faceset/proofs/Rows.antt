@@ -1,5 +1,5 @@
 -- Rows of values, gone over one after another.
-use Rattle.std.proofs.Common.{◌≡◌, ℕ, ◌+◌, ◌<◌, ◌≤◌, List, [], ◌∷◌, ◌++◌, length, take, drop, get_or, map, sum_by, sym, ap, ◌∙◌, arith}
+use Rattle.std.proofs.Common.{◌≡◌, ℕ, ◌+◌, ◌<◌, ◌≤◌, List, [], ◌∷◌, ◌++◌, length, take, drop, get_or, map, sum_by, refl, sym, ap, ◌∙◌, arith}
 use Rattle.std.specs.List.{flat_map}
 use Rattle.std.proofs.lemmas.List.{length-append, map-append, take_more, take-append-drop, append-nil}
 use Rattle.std.proofs.lemmas.List.Concat.{flat_map-append}
@@ -55,7 +55,8 @@ pub added_more : (rows : List Value21) (row : Value21) → added (rows ++ row �
 added_more rows row =
     let e = ap (sum_by loop_count) (map-append items_in rows (row ∷ [])) ∙ sum_by-append loop_count (map items_in rows) (items_in row ∷ []) in
     let one = sum_by-cons loop_count (items_in row) [] in
-    omega (arith, e, one)
+    let nil : sum_by loop_count [] ≡ 0 = refl in
+    omega (arith, e, one, nil)
 
 pub added_front : (rows given : List Value21) (row : Value21) → given ≡ take (length given) rows → length given < length rows → row ≡ get_or rows (length given) row
     → added given + (length (items_in row) + 2) ≤ added rows

@@ -193,7 +193,8 @@ pub record IsStuck (numbers : Option (List Value21)) (points : List Point) (face
   pub stuck : ears_of outer inner ≡ None
 
 -- a face with voids whose loops can't be joined
-pub record IsUnbridged (numbers : Option (List Value21)) (points : List Point) (face : Instance) : Type 0 where
+pub record IsUnbridged (numbers : Option (List Value21)) (points : List Point)
+    (face : Instance) : Type 0 where
   pub outlined : IsOutlined face
   pub outer : List Point
   pub inner : List (List Point)
