@@ -5,9 +5,10 @@ ghost use Rattle.bim_model.specs.Points.{IsGridPoint};
 ghost use Rattle.ear_cut.specs.Areas.{point_at};
 ghost use Rattle.ear_cut.specs.Removal.{cut_of};
 ghost use Rattle.void_bridge.specs.HoleLoops.{corner_count, IsLoop, AreLoops};
-ghost use Rattle.void_bridge.specs.Bridges.{joined_of, points_at as bridged_points};
-ghost use Rattle.faceset.specs.FacePolygons.{ear_by, ears_by, IsLoopsCut};
+ghost use Rattle.void_bridge.specs.Bridges.{joined_of};
+ghost use Rattle.faceset.specs.FacePolygons.{face_points, ear_by, ears_by, IsLoopsCut};
 ghost use Rattle.faceset.specs.FaceSets.{most_corners};
+ghost use Rattle.faceset.specs.inner.Cuts.{polygon_limit};
 
 use bim_model::Point;
 use ear_cut::{CutFault, Ear, cut};
@@ -92,7 +93,7 @@ fn ears_placed(alloc: Global, list: &[u32], ears: &[Ear]) -> Result<Vec<Ear>, Al
 /// The triangles of a polygon. None where it can't be cut.
 fn ears_of_polygon(alloc: Global, corners: &[Point]) -> Result<Option<Vec<Ear>>, AllocError>
     requires three { 3 ≤ length corners.now }
-    requires few { length corners.now ≤ 65536 }
+    requires few { length corners.now ≤ polygon_limit }
     requires in_grid { All IsGridPoint corners.now }
     ensures { IfOk result (λ found. MatchOption found (cut_of corners.now ≡ None)
         (λ ears. cut_of corners.now ≡ Some ears.items)) }
@@ -131,8 +132,8 @@ fn joined_points(
     inner: &[Vec<Point>],
     list: &[u32],
 ) -> Result<Vec<Point>, AllocError>
-    ensures { IfOk result (λ made. made.items
-        ≡ bridged_points outer.now (map (λ loop. loop.items) inner.now) list.now) }
+    ensures { IfOk result (λ made. made.items ≡ map
+        (point_at (face_points outer.now (map (λ loop. loop.items) inner.now))) list.now) }
 {
     let mut all = Vec::new(alloc);
     all.extend_from_slice(outer)?;

@@ -133,6 +133,17 @@ fn face_places(
     }
 }
 
+/// Adds the places of the inner loops of a face, one loop after another, to those of its outline.
+fn add_places(all: &mut Vec<u32>, inner: &[Vec<u32>]) -> Result<(), AllocError>
+    ensures { OnOk result (all.new.items ≡ all.old.items
+        ++ flat_map (λ ring. ring) (map (λ ring. ring.items) inner.now)) }
+{
+    for ring in inner {
+        all.extend_from_slice(ring)?;
+    }
+    Ok(())
+}
+
 /// Which points the corners of a face are, one loop after another.
 fn all_places(places: LoopPlaces) -> Result<Vec<u32>, AllocError>
     ensures { IfOk result (λ all. all.items
@@ -140,9 +151,7 @@ fn all_places(places: LoopPlaces) -> Result<Vec<u32>, AllocError>
 {
     let LoopPlaces { outer, inner } = places;
     let mut all = outer;
-    for ring in &inner {
-        all.extend_from_slice(ring)?;
-    }
+    add_places(&mut all, &inner)?;
     Ok(all)
 }
 

@@ -6,11 +6,16 @@ use Rattle.p21_values.specs.declared.value.Value21.{Value21}
 use Rattle.p21_values.specs.declared.value.Instance.{Instance}
 use Rattle.p21_values.specs.Attributes.{items_in}
 use Rattle.bim_model.specs.declared.geometry.Point.{Point}
+use Rattle.ear_cut.specs.OutlineLimits.{most_corners as most_outline}
 use Rattle.void_bridge.specs.HoleLoops.{IsLoop, AreLoops}
 use Rattle.faceset.specs.declared.faces.FaceLoops.{FaceLoops}
 use Rattle.faceset.specs.declared.faces.Outcome.{Outcome}
 use Rattle.faceset.specs.declared.faces.Outcome.TheVariants as outcome
 use Rattle.faceset.specs.FaceSets.{all_corners, IsMisnamed, IsOutlined, AreLoopsOf, IsCut, IsStuck, IsUnbridged, face_count}
+
+-- the most corners of a polygon that is cut
+abbrev pub polygon_limit : ℕ
+polygon_limit = most_outline
 
 -- how many corners loops have, as they are spelled
 abbrev pub corner_total : List Value21 → ℕ

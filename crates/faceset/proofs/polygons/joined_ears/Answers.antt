@@ -3,7 +3,7 @@ use Rattle.bim_model.specs.declared.geometry.Point.{Point}
 use Rattle.bim_model.specs.Points.{IsGridPoint}
 use Rattle.ear_cut.specs.declared.ears.Ear.{Ear}
 use Rattle.ear_cut.specs.Removal.{cut_of}
-use Rattle.faceset.specs.FacePolygons.{ear_by}
+use Rattle.faceset.specs.inner.Cuts.{polygon_limit}
 use Rattle.faceset.proofs.Polygons.{items_of, joined_three, joined_few, joined_grid, ears_are, no_ears}
 use Rattle.faceset.proofs.polygons.joined_ears.Goals as goal
 
@@ -13,7 +13,7 @@ ears_of_polygon-requires-clause-three c =
 
 pub ears_of_polygon-requires-clause-few : goal.ears_of_polygon-requires-clause-few
 ears_of_polygon-requires-clause-few c =
-    subst (λ (ps : List Point). length ps ≤ 65536) (sym (c.deref.ensures.value ∙ c.in_ok-corners.ensures)) (joined_few c.args.outer.now (items_of c.args.inner.now) c.args.list.now c.requires.inner_are c.requires.few c.requires.joined)
+    subst (λ (ps : List Point). length ps ≤ polygon_limit) (sym (c.deref.ensures.value ∙ c.in_ok-corners.ensures)) (joined_few c.args.outer.now (items_of c.args.inner.now) c.args.list.now c.requires.inner_are c.requires.few c.requires.joined)
 
 pub ears_of_polygon-requires-clause-in_grid : goal.ears_of_polygon-requires-clause-in_grid
 ears_of_polygon-requires-clause-in_grid c =
