@@ -10,7 +10,7 @@ pub mod Named
 pub mod Numbered
 pub mod Placed
 pub mod PointLists
-pub mod Polygons
+pub mod PolygonsMade
 pub mod Reaching
 pub mod Read
 pub mod Rows

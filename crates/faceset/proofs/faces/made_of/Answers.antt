@@ -1,7 +1,7 @@
 use Rattle.std.proofs.Common.{◌≡◌, List, map, IfOk, ap, ◌++◌, ◌∙◌, Vec, Global, subst}
 use Rattle.bim_model.specs.declared.geometry.Point.{Point}
 use Rattle.faceset.specs.FaceSets.{triangle_of}
-use Rattle.faceset.proofs.Polygons.{items_of}
+use Rattle.faceset.proofs.PolygonsMade.{items_of}
 use Rattle.faceset.proofs.Loops.{flat}
 use Rattle.faceset.proofs.faces.made_of.Goals as goal
 

@@ -2,7 +2,7 @@ use Rattle.std.proofs.Common.{◌++◌, List, Vec, Global, take_all, ap, sym, �
 use Rattle.std.proofs.lemmas.List.{append-nil}
 use Rattle.bim_model.specs.declared.geometry.Point.{Point}
 use Rattle.faceset.proofs.Loops.{flat}
-use Rattle.faceset.proofs.Polygons.{items_of, loops_added}
+use Rattle.faceset.proofs.PolygonsMade.{items_of, loops_added}
 use Rattle.faceset.proofs.polygons.add_loops.Goals as goal
 
 pub loop-ring-init : goal.loop-ring-init

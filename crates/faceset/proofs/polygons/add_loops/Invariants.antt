@@ -1,6 +1,6 @@
 use Rattle.std.proofs.Common.{◌≡◌, ◌++◌, take}
 use Rattle.faceset.proofs.Loops.{flat}
-use Rattle.faceset.proofs.Polygons.{items_of}
+use Rattle.faceset.proofs.PolygonsMade.{items_of}
 use Rattle.faceset.proofs.polygons.add_loops.Given as goal
 
 abbrev pub invariant-loop-ring : goal.invariant-loop-ring

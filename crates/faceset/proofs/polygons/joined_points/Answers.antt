@@ -3,7 +3,7 @@ use Rattle.std.proofs.lemmas.Slice.{pushed}
 use Rattle.bim_model.specs.declared.geometry.Point.{Point}
 use Rattle.ear_cut.specs.Areas.{point_at}
 use Rattle.faceset.proofs.Loops.{flat}
-use Rattle.faceset.proofs.Polygons.{items_of}
+use Rattle.faceset.proofs.PolygonsMade.{items_of}
 use Rattle.faceset.proofs.polygons.joined_points.Goals as goal
 
 pub returns : goal.returns
