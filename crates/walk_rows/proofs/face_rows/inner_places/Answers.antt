@@ -11,8 +11,7 @@ overflow_add-total c =
     let few = rw c.in-Some-2.is at c.in_ok-places.ensures.few in
     let rings = c.loop-row.invariant.rings.few in
     let total = c.loop-row.invariant.total_is in
-    let count = c.len.ensures.value in
-    omega (arith, few, rings, total, count)
+    omega (arith, few, rings, total, c.len-total.ensures, c.in-Some-2.places.ok.0)
 
 pub loop-row-preserved : goal.loop-row-preserved
 loop-row-preserved c =
