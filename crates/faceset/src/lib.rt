@@ -3,11 +3,11 @@
 #![tactic(auto)]
 
 mod bad;
-mod loop_corners;
 mod face_counts;
 mod faces;
 mod indexes;
 mod learnt;
+mod loop_corners;
 mod naming;
 mod numbers;
 mod point_counts;
@@ -19,10 +19,10 @@ mod stuck;
 mod triangulated;
 
 pub use bad::has_bad_index;
-pub use loop_corners::{MOST_CORNERS, has_many_corners};
 pub use face_counts::triangle_count;
 pub use indexes::place_of;
 pub use learnt::Learnt;
+pub use loop_corners::{MOST_CORNERS, has_many_corners};
 pub use polygons::{LoopsCut, add_loops, cut_loops, point_at, points_at};
 pub use set_surface::set_triangles;
 pub use sets::{is_face, is_polygonal, is_set, numbering, outline, spelled_loops};

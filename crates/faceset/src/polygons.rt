@@ -196,11 +196,7 @@ fn cut_list(
 }
 
 /// What comes of the loops of a face that has inner ones.
-fn cut_joined(
-    alloc: Global,
-    outer: &[Point],
-    inner: &[Vec<Point>],
-) -> Result<LoopsCut, AllocError>
+fn cut_joined(alloc: Global, outer: &[Point], inner: &[Vec<Point>]) -> Result<LoopsCut, AllocError>
     requires outer_is { IsLoop outer.now }
     requires inner_are { AreLoops (map (λ loop. loop.items) inner.now) }
     requires few { length outer.now + corner_count (map (λ loop. loop.items) inner.now) ≤ most_corners }

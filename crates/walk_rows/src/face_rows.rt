@@ -17,9 +17,7 @@ use crate::row_places::place_named;
 use crate::triangle_rows::Row;
 use bim_model::Point;
 use ear_cut::Ear;
-use faceset::{
-    LoopsCut, MOST_CORNERS, cut_loops, is_face, outline, points_at, spelled_loops,
-};
+use faceset::{LoopsCut, MOST_CORNERS, cut_loops, is_face, outline, points_at, spelled_loops};
 use p21_table::{Exchange, InstanceRef, ValueRef, Values};
 use std::alloc::{AllocError, Global};
 
