@@ -61,7 +61,7 @@ use Rattle.placement.proofs.OneFrame.{same_axes}
 use Rattle.model_build.proofs.OneKeyword.{both, held_is_a}
 use Rattle.model_build.proofs.UsedFormed.{named_at}
 use Rattle.model_build.specs.Triangles.{most_triangles}
-use Rattle.model_build.proofs.SetsFormed.{either, map_used}
+use Rattle.model_build.proofs.SetsFormed.{map_used}
 
 -- all that is used is clean
 abbrev AllClean : List Instance → Scale → Mode → Type 0
