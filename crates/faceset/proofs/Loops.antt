@@ -1,5 +1,5 @@
 -- The loops of a face: their corners one after another, and how many they are.
-use Rattle.std.proofs.Common.{◌≡◌, ℕ, zero, suc, ◌+◌, ◌-◌, ◌*◌, ◌<◌, ◌≤◌, List, [], ◌∷◌, ◌++◌, length, map, sum_by, Option, Some, None, refl, sym, ap, ◌∙◌, subst, arith}
+use Rattle.std.proofs.Common.{◌≡◌, ℕ, suc, ◌+◌, ◌*◌, ◌<◌, ◌≤◌, List, [], ◌∷◌, ◌++◌, length, map, sum_by, Option, Some, None, refl, ap, ◌∙◌, arith}
 use Rattle.std.specs.Option.{option_map, option_and_then}
 use Rattle.std.specs.List.{AllZip, All, flat_map}
 use Rattle.std.proofs.lemmas.List.{length-append, length-map}
@@ -13,11 +13,11 @@ use Rattle.ear_cut.specs.declared.ears.Ear.{Ear}
 use Rattle.ear_cut.specs.Areas.{point_at}
 use Rattle.ear_cut.specs.Removal.{cut_of}
 use Rattle.ear_cut.proofs.AreaSum.{count_of_ears}
-use Rattle.void_bridge.specs.HoleLoops.{corner_count, IsLoop, AreLoops}
+use Rattle.void_bridge.specs.HoleLoops.{corner_count, AreLoops}
 use Rattle.void_bridge.specs.Bridges.{points_at, joined_of}
 use Rattle.void_bridge.proofs.JoinedCounts.{joined_count}
 use Rattle.faceset.specs.FacePolygons.{face_points, ear_by, ears_by, ears_of, AreApart}
-use Rattle.faceset.specs.FaceSets.{IsCorner, AreCorners, AreLoopsOf, IsOutlined, IsCut, IsStuck, IsUnbridged, outline, inner_loops, all_corners, loop_count, face_count, most_corners, triangle_of}
+use Rattle.faceset.specs.FaceSets.{IsCorner, AreCorners, AreLoopsOf, IsCut, IsStuck, IsUnbridged, outline, inner_loops, all_corners, loop_count, face_count, triangle_of}
 use Rattle.faceset.proofs.Zips.{zip_length, zip_append, zip_flat}
 
 -- ---- one loop after another

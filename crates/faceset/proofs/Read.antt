@@ -1,5 +1,5 @@
 -- The loops of a face as they are read and cut.
-use Rattle.std.proofs.Common.{◌≡◌, ℕ, ◌+◌, ◌<◌, ◌≤◌, List, [], ◌∷◌, ◌++◌, length, map, Option, Some, None, Any, Vec, Global, Result, Ok, Err, IfOk, MatchOption, sym, ap, ◌∙◌, subst, arith}
+use Rattle.std.proofs.Common.{◌≡◌, ◌+◌, ◌<◌, ◌≤◌, List, [], ◌∷◌, ◌++◌, length, map, Option, Some, None, Any, Vec, Global, Result, Ok, Err, IfOk, MatchOption, sym, ap, ◌∙◌, subst, arith}
 use Rattle.std.specs.List.{All, AllZip}
 use Rattle.std.proofs.lemmas.List.{length-append, map-append}
 use Rattle.std.proofs.lemmas.List.Elements.{All-push}
@@ -15,7 +15,7 @@ use Rattle.faceset.specs.declared.faces.FaceLoops.{FaceLoops}
 use Rattle.faceset.specs.FacePolygons.{face_points, ears_of, AreApart}
 use Rattle.faceset.specs.FaceSets.{IsCorner, AreCorners, IsMisnamed, IsOutlined, IsCut, IsStuck, IsUnbridged, outline, inner_loops, all_corners, most_corners, triangle_of}
 use Rattle.faceset.specs.inner.Cuts.{IsUnread, HasMisnamed, AreReadLoops}
-use Rattle.faceset.proofs.Anys.{any_left, any_right, any_flat}
+use Rattle.faceset.proofs.Anys.{any_right, any_flat}
 use Rattle.faceset.proofs.Zips.{zip_length, zip_push}
 use Rattle.faceset.proofs.Loops.{flat, all_cornered, flat_length, loops_long}
 use Rattle.faceset.proofs.Unique.{joined_bridged}
@@ -49,9 +49,6 @@ loop_read numbers points indexes (Ok (Some made)) three h =
     (h.0, record { three = (let l = zip_length (IsCorner numbers points) indexes made.items h.0 in omega (arith, l, three)); in_grid = h.1 })
 
 -- ---- loops that aren't ready
-pub outline_unready : (numbers : Option (List Value21)) (points : List Point) (face : Instance) → IsUnread numbers points (outline face) → IsOutlined face → HasMisnamed numbers points face
-outline_unready numbers points face unread outlined = any_left (IsMisnamed numbers (length points)) (outline face) (flat (inner_loops face)) (unread outlined.outer)
-
 any_long : (P : List Value21 → Type 0) (xss : List (List Value21)) → Any (λ xs. 2 < length xs → P xs) xss → All (λ (xs : List Value21). 2 < length xs) xss → Any P xss
 any_long P xss any long =
     (any.0, any.1, any.2, any.3, any.4 (subst (λ (xs : List Value21). 2 < length xs) any.3 (long any.0 any.1 any.2)))
@@ -108,7 +105,3 @@ read_apart numbers points face made read few apart = record {
   are_loops = read.are_loops;
   apart = apart;
 }
-
--- a face with too many corners isn't ready
-pub full_unready : (numbers : Option (List Value21)) (points : List Point) (face : Instance) → most_corners < length (all_corners face) → IsOutlined face → HasMisnamed numbers points face
-full_unready numbers points face many outlined = absurd (let f = outlined.few in omega (arith, many, f))

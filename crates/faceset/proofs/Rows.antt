@@ -1,6 +1,5 @@
 -- Rows of values, gone over one after another.
 use Rattle.std.proofs.Common.{◌≡◌, ℕ, ◌+◌, ◌<◌, ◌≤◌, List, [], ◌∷◌, ◌++◌, length, take, drop, get_or, map, sum_by, refl, sym, ap, ◌∙◌, arith}
-use Rattle.std.specs.List.{flat_map}
 use Rattle.std.proofs.lemmas.List.{length-append, map-append, take_more, take-append-drop, append-nil}
 use Rattle.std.proofs.lemmas.List.Concat.{flat_map-append}
 use Rattle.std.proofs.lemmas.List.Sums.{sum_by-append, sum_by-cons}
@@ -34,9 +33,6 @@ held_front rows given row front lt at =
     ap held (sym (front_of rows given row front lt at)) ∙ (held_append (given ++ row ∷ []) (drop (length given + 1) rows) ∙ ap (λ (vs : List Value21). vs ++ held (drop (length given + 1) rows)) (held_more given row))
 
 -- how many they hold
-
-pub total_more : (rows : List Value21) (row : Value21) → corner_total (rows ++ row ∷ []) ≡ corner_total rows + length (items_in row)
-total_more rows row = ap length (held_more rows row) ∙ length-append (held rows) (items_in row)
 
 pub total_front : (rows given : List Value21) (row : Value21) → given ≡ take (length given) rows → length given < length rows → row ≡ get_or rows (length given) row
     → corner_total given + length (items_in row) ≤ corner_total rows

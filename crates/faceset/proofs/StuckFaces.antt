@@ -12,7 +12,7 @@ use Rattle.bim_model.specs.declared.geometry.Point.{Point}
 use Rattle.p21_values.specs.InstanceLookup.{look}
 use Rattle.p21_values.specs.Values.{reference_of}
 use Rattle.faceset.specs.FacePolygons.{face_points}
-use Rattle.faceset.specs.FaceSets.{IsStuck, IsUnbridged, IsOutlined, IsCorner, all_corners, face_ids, is_polygonal, numbering, HasStuck, HasUnbridged}
+use Rattle.faceset.specs.FaceSets.{IsStuck, IsOutlined, IsCorner, all_corners, face_ids, is_polygonal, numbering, HasStuck, HasUnbridged}
 use Rattle.p21_values.specs.Attributes.{listed}
 use Rattle.ifc_instances.specs.inner.Least.{IsLeast, LeastOf}
 use Rattle.ifc_instances.proofs.Rising.{before}

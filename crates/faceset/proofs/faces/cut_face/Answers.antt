@@ -1,4 +1,4 @@
-use Rattle.std.proofs.Common.{◌≡◌, ◌+◌, ◌≤◌, List, length, map, Some, None, Vec, Global, option_copied, ap, sym, ◌∙◌, subst}
+use Rattle.std.proofs.Common.{◌+◌, ◌≤◌, List, length, map, Vec, Global, option_copied, ap, sym, ◌∙◌, subst}
 use Rattle.bim_model.specs.declared.geometry.Point.{Point}
 use Rattle.ear_cut.specs.declared.ears.Ear.{Ear}
 use Rattle.void_bridge.specs.HoleLoops.{corner_count}

@@ -1,6 +1,5 @@
-use Rattle.std.proofs.Common.{◌≡◌, Some, List, ℕ, sym, ap, ◌∙◌}
-use Rattle.void_bridge.specs.Bridges.{joined_of}
-use Rattle.faceset.proofs.PolygonsMade.{items_of, apart_are}
+use Rattle.std.proofs.Common.{Some, List, ℕ, sym, ap, ◌∙◌}
+use Rattle.faceset.proofs.PolygonsMade.{apart_are}
 use Rattle.faceset.proofs.polygons.cut_joined.Goals as goal
 
 pub cut_list-requires-clause-joined : goal.cut_list-requires-clause-joined

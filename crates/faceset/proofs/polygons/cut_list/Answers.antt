@@ -1,5 +1,5 @@
 use Rattle.std.proofs.Common.{Some, None}
-use Rattle.faceset.proofs.PolygonsMade.{items_of, joined_cut, joined_together}
+use Rattle.faceset.proofs.PolygonsMade.{joined_cut, joined_together}
 use Rattle.faceset.proofs.polygons.cut_list.Goals as goal
 
 pub returns-in-Some : goal.returns-in-Some

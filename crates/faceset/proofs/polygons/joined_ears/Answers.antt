@@ -2,7 +2,6 @@ use Rattle.std.proofs.Common.{◌≤◌, List, length, All, sym, ap, ◌∙◌, 
 use Rattle.bim_model.specs.declared.geometry.Point.{Point}
 use Rattle.bim_model.specs.Points.{IsGridPoint}
 use Rattle.ear_cut.specs.declared.ears.Ear.{Ear}
-use Rattle.ear_cut.specs.Removal.{cut_of}
 use Rattle.faceset.specs.FacePolygons.{ear_by}
 use Rattle.faceset.specs.inner.Cuts.{polygon_limit}
 use Rattle.faceset.proofs.PolygonsMade.{items_of, joined_three, joined_few, joined_grid, ears_are, no_ears}

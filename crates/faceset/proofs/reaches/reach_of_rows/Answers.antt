@@ -1,5 +1,4 @@
 use Rattle.std.proofs.Common.{List, All, Any, map, sym, subst}
-use Rattle.std.specs.List.{flat_map}
 use Rattle.p21_values.specs.declared.value.Value21.{Value21}
 use Rattle.p21_values.specs.Attributes.{items_in}
 use Rattle.p21_values.proofs.Turns.{turn, ended}
