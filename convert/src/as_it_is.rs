@@ -29,7 +29,7 @@ const OFF_GRID: f64 = 0.001_733;
 /// What of an element's shape the server doesn't read itself.
 #[derive(Clone, Copy, Debug, Default, PartialEq)]
 pub struct Beyond {
-    /// An item that is no face set without voids, or that isn't in a representation Body.
+    /// An item that is no face set, or that isn't in a representation Body.
     pub items: bool,
     /// A placement other than by quarter turns, a scale, the context's coordinate system.
     pub placed: bool,
@@ -119,7 +119,7 @@ pub fn reasons(
     let classes: u64 = report.renamed.values().sum();
     for (what, count) in [
         (
-            "elements of other items than face sets without voids, as Body",
+            "elements of other items than face sets, as Body",
             report.of_other_items,
         ),
         (

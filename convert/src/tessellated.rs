@@ -77,7 +77,6 @@ impl<'a> Shaper<'a> {
                     rings.push(corners.ring(hole.list())?);
                 }
             }
-            out.beyond.items |= rings.len() > 1;
             let count: usize = rings.iter().map(Vec::len).sum();
             self.work.spend(count * count / 4)?;
             if !cut_face(&rings, &mut out.surface).map_err(|fault| fault.at(face))? {

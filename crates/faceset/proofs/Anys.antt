@@ -1,6 +1,6 @@
 -- One of the items of a list that was joined, or made item by item.
 use Rattle.std.proofs.Common.{◌≡◌, ℕ, zero, suc, ◌<◌, List, [], ◌∷◌, ◌++◌, length, map, get_or, refl, sym, subst, ◌∙◌, arith}
-use Rattle.std.specs.List.{All, Any}
+use Rattle.std.specs.List.{All, Any, flat_map}
 use Rattle.std.proofs.lemmas.List.{get_or_default, get_or_append_left, length-append}
 
 pub any_left : {X : Type 0} (P : X → Type 0) (xs ys : List X) → Any P xs → Any P (xs ++ ys)
@@ -32,3 +32,12 @@ pub any_mapped : {X Y : Type 0} (f : X → Y) (P : Y → Type 0) (xs : List X) (
 any_mapped f P [] i x lt at h = absurd (omega (arith, lt))
 any_mapped f P (y ∷ xs) zero x lt at h = (0, f y, omega arith, refl, subst (λ z. P (f z)) at h)
 any_mapped f P (y ∷ xs) (suc i) x lt at h = let r = any_mapped f P xs i x (omega (arith, lt)) at h in (suc r.0, r.1, (let l = r.2 in omega (arith, l)), r.3, r.4)
+
+-- .. of lists joined end to end
+pub any_flat : {X : Type 0} (P : X → Type 0) (xss : List (List X)) → Any (Any P) xss → Any P (flat_map (λ (xs : List X). xs) xss)
+any_flat P [] any = absurd (let lt = any.2 in omega (arith, lt))
+any_flat {X} P (xs ∷ xss) any = from (any_flat P xss) any.0 any.1 any.2 any.3 any.4
+  where
+    from : (Any (Any P) xss → Any P (flat_map (λ (xs : List X). xs) xss)) → (k : ℕ) (ys : List X) → k < length (xs ∷ xss) → get_or (xs ∷ xss) k ys ≡ ys → Any P ys → Any P (xs ++ flat_map (λ (xs : List X). xs) xss)
+    from rest zero ys lt e h = any_left P xs (flat_map (λ (xs : List X). xs) xss) (subst (Any P) (sym e) h)
+    from rest (suc k) ys lt e h = any_right P xs (flat_map (λ (xs : List X). xs) xss) (rest (k, ys, omega (arith, lt), e, h))

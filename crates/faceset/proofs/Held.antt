@@ -12,11 +12,13 @@ use Rattle.bim_model.specs.Boxes.{corners_of}
 use Rattle.ear_cut.specs.declared.ears.Ear.{Ear}
 use Rattle.ear_cut.specs.Areas.{point_at}
 use Rattle.ear_cut.specs.Corners.{nobody}
-use Rattle.faceset.specs.FaceSets.{numbering, is_polygonal, faces_of, spelled_triangles, outline, triangle_of, IsCorner, AreTriangles, IsCut, Joined, SetTriangles}
+use Rattle.faceset.specs.FaceSets.{numbering, is_polygonal, faces_of, spelled_triangles, all_corners, triangle_of, IsCorner, AreTriangles, IsCut, Joined, SetTriangles}
+use Rattle.faceset.specs.FacePolygons.{face_points}
 use Rattle.faceset.proofs.Zips.{zip_all}
+use Rattle.faceset.proofs.Loops.{all_cornered}
 use Rattle.faceset.proofs.Corners.{corner_has}
 
-point_has : (P : Point → Type 0) → P nobody.point → (corners : List Point) → All P corners → (place : ℕ) → P (point_at corners place)
+pub point_has : (P : Point → Type 0) → P nobody.point → (corners : List Point) → All P corners → (place : ℕ) → P (point_at corners place)
 point_has P origin corners all place = from (cases_lt place (length corners))
   where
     from : (place < length corners) ⊎ (length corners ≤ place) → P (point_at corners place)
@@ -33,8 +35,9 @@ ears_have P origin corners all (e ∷ es) =
 
 cut_has : (P : Point → Type 0) → P nobody.point → (numbers : Option (List Value21)) (points : List Point) → All P points → (face : Instance) (ts : List Triangle) → IsCut numbers points face ts → All P (corners_of ts)
 cut_has P origin numbers points all face ts cut =
-    let corners = zip_all (IsCorner numbers points) P (corner_has P numbers points all) (outline face) cut.corners cut.are_corners in
-    subst (λ (us : List Triangle). All P (corners_of us)) (sym cut.are_triangles) (ears_have P origin cut.corners corners cut.ears)
+    let made = face_points cut.outer cut.inner in
+    let corners = zip_all (IsCorner numbers points) P (corner_has P numbers points all) (all_corners face) made (all_cornered numbers points face cut.outer cut.inner cut.are_loops) in
+    subst (λ (us : List Triangle). All P (corners_of us)) (sym cut.are_triangles) (ears_have P origin made corners cut.ears)
 
 corners_append : (ts us : List Triangle) → corners_of (ts ++ us) ≡ corners_of ts ++ corners_of us
 corners_append [] us = refl

@@ -5,11 +5,15 @@ pub mod Decimals
 pub mod FaceLists
 pub mod Held
 pub mod Joins
+pub mod Loops
 pub mod Named
 pub mod Numbered
 pub mod Placed
 pub mod PointLists
+pub mod PolygonsMade
 pub mod Reaching
+pub mod Read
+pub mod Rows
 pub mod SetParts
 pub mod StuckFaces
 pub mod Unique

@@ -14,9 +14,11 @@ use Rattle.bim_model.specs.declared.geometry.Triangle.{Triangle}
 use Rattle.p21_values.specs.InstanceLookup.{look}
 use Rattle.faceset.specs.Indexes.{PointsNowhere}
 use Rattle.p21_values.specs.Attributes.{listed, items_in, led_to}
-use Rattle.faceset.specs.FaceSets.{outline, numbering, spelled_points, spelled_triangles, is_polygonal, faces_of, face_ids, rows_of, counted_by, HasBadNumber, HasBadIndex, IsMisnamed, AreCorners, IsOutlined, HasThree, IsSound, IsCut, IsStuck, HasStuck, IsTriangle, AreTriangles, Joined, SetTriangles, face_count, triangle_count}
+use Rattle.faceset.specs.FaceSets.{all_corners, numbering, spelled_points, spelled_triangles, is_polygonal, faces_of, face_ids, rows_of, counted_by, HasBadNumber, HasBadIndex, IsMisnamed, AreCorners, IsOutlined, HasThree, IsSound, IsCut, IsStuck, HasStuck, IsTriangle, AreTriangles, Joined, SetTriangles, face_count, triangle_count}
 use Rattle.faceset.specs.inner.Cuts.{IsLoose}
+use Rattle.faceset.specs.FacePolygons.{face_points}
 use Rattle.faceset.proofs.Zips.{zip_length}
+use Rattle.faceset.proofs.Loops.{all_cornered}
 use Rattle.faceset.proofs.Joins.{gives_one, contains_mapped, joined_at}
 use Rattle.faceset.proofs.Unique.{named_well, cut_unstuck}
 
@@ -67,8 +69,8 @@ stuck_by : (world : List Instance) (points : List Point) (set : Instance) → is
 stuck_by world points set polygonal sound face has (inl stuck) = stuck
 stuck_by world points set polygonal sound face has (inr unready) =
     let outlined = All-contains IsOutlined (faces_of world set) face (MatchBool-at_true (All IsOutlined (faces_of world set)) (All HasThree (spelled_triangles set)) polygonal sound.rows) has in
-    let row = in_first (is_polygonal set) (map outline (faces_of world set)) (map items_in (spelled_triangles set)) (outline face) polygonal (contains_map outline (faces_of world set) face has) in
-    absurd (sound.indexed (set_bad world points set (outline face) sound.count row (row_bad (numbering set) (length points) (outline face) (unready outlined))))
+    let row = in_first (is_polygonal set) (map all_corners (faces_of world set)) (map items_in (spelled_triangles set)) (all_corners face) polygonal (contains_map all_corners (faces_of world set) face has) in
+    absurd (sound.indexed (set_bad world points set (all_corners face) sound.count row (row_bad (numbering set) (length points) (all_corners face) (unready outlined))))
 
 pub loose_stuck : (world : List Instance) (points : List Point) (set : Instance) → is_polygonal set ≡ true → IsSound world points set → Any (IsLoose (numbering set) points) (faces_of world set)
     → (id : ℕ) × HasStuck world points set id
@@ -76,7 +78,7 @@ unfolding faces_of face_ids
 loose_stuck world points set polygonal sound any =
     let one = gives_one (look world) (IsLoose (numbering set) points) (face_ids set) any in
     let has = contains_mapped (look world) (face_ids set) one.item one.given one.listed one.gives in
-    (one.item, record { polygonal = polygonal; listed = one.listed; face = one.given; found = one.gives; stuck = stuck_by world points set polygonal sound one.given has one.holds })
+    (one.item, record { polygonal = polygonal; listed = one.listed; face = one.given; found = one.gives; such = stuck_by world points set polygonal sound one.given has one.holds })
 
 faces_are : (world : List Instance) (set : Instance) → faces_of world set ≡ led_to world (listed set 2)
 unfolding faces_of
@@ -116,7 +118,7 @@ flat_sound : (world : List Instance) (points : List Point) (set : Instance) → 
 flat_sound world points set flat sound any =
     let threes = MatchBool-at_false (All IsOutlined (faces_of world set)) (All HasThree (spelled_triangles set)) flat sound.rows in
     let three = subst HasThree any.3 (threes any.0 any.1 any.2) in
-    let row = in_second (is_polygonal set) (map outline (faces_of world set)) (map items_in (spelled_triangles set)) (items_in any.1) flat (contains_map items_in (spelled_triangles set) any.1 (any.0, any.2, any.3)) in
+    let row = in_second (is_polygonal set) (map all_corners (faces_of world set)) (map items_in (spelled_triangles set)) (items_in any.1) flat (contains_map items_in (spelled_triangles set) any.1 (any.0, any.2, any.3)) in
     sound.indexed (set_bad world points set (items_in any.1) sound.count row (row_bad (numbering set) (length points) (items_in any.1) (any.4 three)))
 
 pub flat_made : {E : Type 0} (world : List Instance) (points : List Point) (set : Instance) (numbers : Option (List Value21)) (rows : List Value21) (r : Result (Option (Vec Triangle Global)) E)
@@ -148,7 +150,7 @@ well_cornered numbers points (v ∷ vs) (c ∷ cs) all (suc k, x, lt, at, m) = w
 
 loose_uncut : (numbers : Option (List Value21)) (points : List Point) (face : Instance) → IsLoose numbers points face → (ts : List Triangle) → IsCut numbers points face ts → ⊥
 loose_uncut numbers points face (inl stuck) ts cut = cut_unstuck numbers points face ts cut stuck
-loose_uncut numbers points face (inr lacks) ts cut = well_cornered numbers points (outline face) cut.corners cut.are_corners (lacks cut.outlined)
+loose_uncut numbers points face (inr lacks) ts cut = well_cornered numbers points (all_corners face) (face_points cut.outer cut.inner) (all_cornered numbers points face cut.outer cut.inner cut.are_loops) (lacks cut.outlined)
 
 never_joined : (numbers : Option (List Value21)) (points : List Point) (faces : List Instance) → Any (IsLoose numbers points) faces → (ts : List Triangle) → Joined (IsCut numbers points) faces ts → ⊥
 never_joined numbers points faces any ts joined =

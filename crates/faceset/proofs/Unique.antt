@@ -9,10 +9,10 @@ use Rattle.p21_values.specs.declared.value.Instance.{Instance}
 use Rattle.bim_model.specs.declared.geometry.Point.{Point}
 use Rattle.bim_model.specs.declared.geometry.Triangle.{Triangle}
 use Rattle.p21_values.specs.InstanceLookup.{look}
-use Rattle.ear_cut.specs.Removal.{cut_of}
 use Rattle.bim_text.specs.Decimals.{WritesWhole}
+use Rattle.faceset.specs.FacePolygons.{face_points, ears_of, AreApart}
 use Rattle.faceset.specs.Indexes.{PointsAt}
-use Rattle.faceset.specs.FaceSets.{NamesPoint, IsMisnamed, IsCorner, AreCorners, IsTriangle, AreTriangles, triangle_of, outline, IsCut, IsStuck, Joined, SetTriangles, HasStuck, numbering, is_polygonal, faces_of, face_ids, spelled_triangles}
+use Rattle.faceset.specs.FaceSets.{NamesPoint, IsMisnamed, IsCorner, AreCorners, IsTriangle, AreTriangles, triangle_of, outline, inner_loops, AreLoopsOf, IsCut, IsStuck, IsUnbridged, Joined, SetTriangles, HasStuck, numbering, is_polygonal, faces_of, face_ids, spelled_triangles}
 use Rattle.faceset.proofs.Decimals.{one_number}
 use Rattle.faceset.proofs.Zips.{zip_same}
 use Rattle.faceset.proofs.Joins.{contains_mapped, joined_at, joined_same}
@@ -49,18 +49,35 @@ corner_same numbers points v a b p q =
 pub corners_same : (numbers : Option (List Value21)) (points : List Point) (indexes : List Value21) (cs ds : List Point) → AreCorners numbers points indexes cs → AreCorners numbers points indexes ds → cs ≡ ds
 corners_same numbers points indexes cs ds p q = zip_same (IsCorner numbers points) (corner_same numbers points) indexes cs ds p q
 
--- .. and a face one list of triangles
+-- .. and a face one list of loops
+pub loops_same : (numbers : Option (List Value21)) (points : List Point) (face : Instance) (o p : List Point) (i j : List (List Point)) → AreLoopsOf numbers points face o i → AreLoopsOf numbers points face p j → (o ≡ p) × (i ≡ j)
+loops_same numbers points face o p i j a b = (
+  corners_same numbers points (outline face) o p a.outer_are b.outer_are,
+  zip_same (AreCorners numbers points) (corners_same numbers points) (inner_loops face) i j a.inner_are b.inner_are,
+)
+
+ears_same : (o p : List Point) (i j : List (List Point)) → o ≡ p → i ≡ j → ears_of o i ≡ ears_of p j
+ears_same o p i j e f = ap (λ (q : List Point). ears_of q i) e ∙ ap (ears_of p) f
+
+-- .. and one list of triangles
 pub cut_same : (numbers : Option (List Value21)) (points : List Point) (face : Instance) (ts us : List Triangle) → IsCut numbers points face ts → IsCut numbers points face us → ts ≡ us
 cut_same numbers points face ts us p q =
-    let corners = corners_same numbers points (outline face) p.corners q.corners p.are_corners q.are_corners in
-    let ears = same_Some p.ears q.ears (sym p.cut ∙ ap cut_of corners ∙ q.cut) in
-    p.are_triangles ∙ ap (λ cs. map (triangle_of cs) p.ears) corners ∙ ap (map (triangle_of q.corners)) ears ∙ sym q.are_triangles
+    let loops = loops_same numbers points face p.outer q.outer p.inner q.inner p.are_loops q.are_loops in
+    let corners : face_points p.outer p.inner ≡ face_points q.outer q.inner = ap (λ (o : List Point). face_points o p.inner) loops.0 ∙ ap (face_points q.outer) loops.1 in
+    let ears = same_Some p.ears q.ears (sym p.cut ∙ ears_same p.outer q.outer p.inner q.inner loops.0 loops.1 ∙ q.cut) in
+    p.are_triangles ∙ ap (λ cs. map (triangle_of cs) p.ears) corners ∙ ap (map (triangle_of (face_points q.outer q.inner))) ears ∙ sym q.are_triangles
 
 -- a face that is cut isn't stuck
 pub cut_unstuck : (numbers : Option (List Value21)) (points : List Point) (face : Instance) (ts : List Triangle) → IsCut numbers points face ts → IsStuck numbers points face → ⊥
 cut_unstuck numbers points face ts p q =
-    let corners = corners_same numbers points (outline face) q.corners p.corners q.are_corners p.are_corners in
-    none-some p.ears (sym q.stuck ∙ ap cut_of corners ∙ p.cut)
+    let loops = loops_same numbers points face q.outer p.outer q.inner p.inner q.are_loops p.are_loops in
+    none-some p.ears (sym q.stuck ∙ ears_same q.outer p.outer q.inner p.inner loops.0 loops.1 ∙ p.cut)
+
+-- nor one whose loops are joined unbridged
+pub joined_bridged : (numbers : Option (List Value21)) (points : List Point) (face : Instance) (outer : List Point) (inner : List (List Point)) → AreLoopsOf numbers points face outer inner → (AreApart outer inner → ⊥) → IsUnbridged numbers points face → ⊥
+joined_bridged numbers points face outer inner are joined u =
+    let loops = loops_same numbers points face u.outer outer u.inner inner u.are_loops are in
+    joined (subst (λ (o : List Point). AreApart o inner) loops.0 (subst (AreApart u.outer) loops.1 u.apart))
 
 triangle_by : (t u : Triangle) → t.a ≡ u.a → t.b ≡ u.b → t.c ≡ u.c → t ≡ u
 triangle_by t u e f g =
@@ -97,4 +114,4 @@ never_stuck world points set ts made id h =
     let joined = MatchBool-at_true (Joined (IsCut (numbering set) points) (faces_of world set) ts) (AreTriangles (numbering set) points (spelled_triangles set) ts) h.polygonal made in
     let named = has_face world set id h.face h.listed h.found in
     let part = joined_at (IsCut (numbering set) points) (faces_of world set) ts named.0 h.face named.1 named.2 joined in
-    cut_unstuck (numbering set) points h.face part.0 part.1 h.stuck
+    cut_unstuck (numbering set) points h.face part.0 part.1 h.such

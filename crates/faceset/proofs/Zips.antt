@@ -1,6 +1,6 @@
 -- Lists of one length whose items go with each other, pair by pair.
 use Rattle.std.proofs.Common.{◌≡◌, ℕ, zero, suc, ◌<◌, List, [], ◌∷◌, ◌++◌, length, get_or, refl, ap, subst, arith}
-use Rattle.std.specs.List.{AllZip, All}
+use Rattle.std.specs.List.{AllZip, All, flat_map}
 use Rattle.std.proofs.lemmas.List.Elements.{All-nil, All-cons}
 
 pub zip_push : {A B : Type 0} (R : A → B → Type 0) (xs : List A) (ys : List B) (x : A) (y : B) → AllZip R xs ys → R x y → AllZip R (xs ++ x ∷ []) (ys ++ y ∷ [])
@@ -35,3 +35,16 @@ zip_at R [] ys k x lt at are = absurd (omega (arith, lt))
 zip_at R (u ∷ xs) [] k x lt at are = absurd are
 zip_at R (u ∷ xs) (v ∷ ys) zero x lt at are = (v, subst (λ z. R z v) at are.0)
 zip_at R (u ∷ xs) (v ∷ ys) (suc k) x lt at are = zip_at R xs ys k x (omega (arith, lt)) at are.1
+
+pub zip_append : {A B : Type 0} (R : A → B → Type 0) (xs ys : List A) (us vs : List B) → AllZip R xs us → AllZip R ys vs → AllZip R (xs ++ ys) (us ++ vs)
+zip_append R [] ys [] vs first second = second
+zip_append R [] ys (u ∷ us) vs first second = absurd first
+zip_append R (x ∷ xs) ys [] vs first second = absurd first
+zip_append R (x ∷ xs) ys (u ∷ us) vs first second = (first.0, zip_append R xs ys us vs first.1 second)
+
+-- lists of lists, joined end to end
+pub zip_flat : {A B : Type 0} (R : A → B → Type 0) (xss : List (List A)) (uss : List (List B)) → AllZip (AllZip R) xss uss → AllZip R (flat_map (λ (xs : List A). xs) xss) (flat_map (λ (us : List B). us) uss)
+zip_flat R [] [] are = tt
+zip_flat R [] (u ∷ uss) are = absurd are
+zip_flat R (x ∷ xss) [] are = absurd are
+zip_flat {A} {B} R (x ∷ xss) (u ∷ uss) are = zip_append R x (flat_map (λ (xs : List A). xs) xss) u (flat_map (λ (us : List B). us) uss) are.0 (zip_flat R xss uss are.1)

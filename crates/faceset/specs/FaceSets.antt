@@ -1,20 +1,21 @@
--- Face sets by their values (IFC4 ADD2 TC1, IfcTriangulatedFaceSet, IfcPolygonalFaceSet, IfcIndexedPolygonalFace).
-use Rattle.std.specs.Prelude.{◌≡◌, ℕ, ◌<◌, ◌≤◌, ◌-◌, ◌⊎◌, Bool, true, ◌||◌, if◌then◌else◌, List, [], ◌∷◌, ◌++◌, length, map, filter_map, sum_by, Option, Some, None, Any, All, Contains, option_and_then, MatchOption}
+-- Face sets by their values (IFC4 ADD2 TC1, IfcTriangulatedFaceSet, IfcPolygonalFaceSet, IfcIndexedPolygonalFace,
+-- IfcIndexedPolygonalFaceWithVoids).
+use Rattle.std.specs.Prelude.{◌≡◌, ℕ, ◌<◌, ◌≤◌, ◌+◌, ◌-◌, ◌⊎◌, Bool, true, ◌||◌, if◌then◌else◌, List, [], ◌∷◌, ◌++◌, length, map, filter_map, sum_by, Option, Some, None, Any, All, Contains, option_and_then, MatchOption}
 use Rattle.std.specs.Bool.{MatchBool}
-use Rattle.std.specs.List.{slice_get, AllZip}
+use Rattle.std.specs.List.{slice_get, flat_map, AllZip}
 use Rattle.p21_values.specs.declared.value.Value21.{Value21}
 use Rattle.p21_values.specs.declared.value.Instance.{Instance}
 use Rattle.bim_model.specs.declared.geometry.Point.{Point}
 use Rattle.bim_model.specs.declared.geometry.Triangle.{Triangle}
-use Rattle.ifc_instances.specs.declared.entity.Entity.TheVariants.{TriangulatedFaceSet, PolygonalFaceSet}
+use Rattle.ifc_instances.specs.declared.entity.Entity.TheVariants.{TriangulatedFaceSet, PolygonalFaceSet, Face, FaceWithVoids}
 use Rattle.p21_values.specs.InstanceLookup.{look}
 use Rattle.ifc_instances.specs.EntityLookup.{is_a}
 use Rattle.p21_values.specs.Values.{reference_of, items_of}
 use Rattle.p21_values.specs.Attributes.{items_in, listed, target_at, led_to}
 use Rattle.ear_cut.specs.declared.ears.Ear.{Ear}
 use Rattle.ear_cut.specs.Areas.{point_at}
-use Rattle.ear_cut.specs.Removal.{cut_of}
-use Rattle.faceset.specs.declared.faces.TheConstants.{MOST_CORNERS}
+use Rattle.faceset.specs.declared.loop_corners.TheConstants.{MOST_CORNERS}
+use Rattle.faceset.specs.FacePolygons.{face_points, ears_of, AreApart}
 use Rattle.faceset.specs.Indexes.{PointsAt, PointsNowhere}
 
 -- What a set says.
@@ -40,6 +41,10 @@ is_polygonal set = is_a PolygonalFaceSet set
 abbrev pub is_set : Instance → Bool
 is_set i = is_a TriangulatedFaceSet i || is_polygonal i
 
+-- a face, with voids or without
+abbrev pub is_face : Instance → Bool
+is_face i = is_a Face i || is_a FaceWithVoids i
+
 -- the attribute with the numbers of the points (PnIndex)
 abbrev pub numbering_place : Bool → ℕ
 numbering_place polygonal = if polygonal then 3 else 4
@@ -64,10 +69,22 @@ faces_of world set = led_to world (listed set 2)
 abbrev pub outline : Instance → List Value21
 outline face = listed face 0
 
+-- the inner loops of a face, as they are spelled: those of its voids (InnerCoordIndices), if it has any
+abbrev pub spelled_loops : Instance → List Value21
+spelled_loops face = if is_a FaceWithVoids face then listed face 1 else []
+
+-- .. each by the indexes of its corners
+abbrev pub inner_loops : Instance → List (List Value21)
+inner_loops face = map items_in (spelled_loops face)
+
+-- the indexes of all corners of a face: of its outline, and then of its inner loops, one loop after another
+abbrev pub all_corners : Instance → List Value21
+all_corners face = outline face ++ flat_map (λ (loop : List Value21). loop) (inner_loops face)
+
 -- the indexes of a set, triangle by triangle or face by face
 abbrev pub rows_of : List Instance → Instance → List (List Value21)
 rows_of world set = if is_polygonal set
-    then map outline (faces_of world set) else map items_in (spelled_triangles set)
+    then map all_corners (faces_of world set) else map items_in (spelled_triangles set)
 
 -- Which corner an index names.
 
@@ -144,26 +161,45 @@ triangle_of corners ear = record {
 abbrev pub most_corners : ℕ
 most_corners = MOST_CORNERS
 
--- a face of three corners or more, but not too many
-abbrev pub IsOutlined : Instance → Type 0
-IsOutlined face = (2 < length (outline face)) × (length (outline face) ≤ most_corners)
+-- each loop of a face has three corners or more, and all together not too many
+pub record IsOutlined (face : Instance) : Type 0 where
+  pub outer : 2 < length (outline face)
+  pub inner : All (λ (loop : List Value21). 2 < length loop) (inner_loops face)
+  pub few : length (all_corners face) ≤ most_corners
+
+-- the corners of a face, loop by loop
+pub record AreLoopsOf (numbers : Option (List Value21)) (points : List Point) (face : Instance)
+    (outer : List Point) (inner : List (List Point)) : Type 0 where
+  pub outer_are : AreCorners numbers points (outline face) outer
+  pub inner_are : AllZip (AreCorners numbers points) (inner_loops face) inner
 
 -- a face cut into triangles
 pub record IsCut (numbers : Option (List Value21)) (points : List Point) (face : Instance)
     (triangles : List Triangle) : Type 0 where
   pub outlined : IsOutlined face
-  pub corners : List Point
-  pub are_corners : AreCorners numbers points (outline face) corners
+  pub outer : List Point
+  pub inner : List (List Point)
+  pub are_loops : AreLoopsOf numbers points face outer inner
   pub ears : List Ear
-  pub cut : cut_of corners ≡ Some ears
-  pub are_triangles : triangles ≡ map (triangle_of corners) ears
+  pub cut : ears_of outer inner ≡ Some ears
+  pub are_triangles : triangles ≡ map (triangle_of (face_points outer inner)) ears
 
--- a face that can't be cut
+-- a face that can't be cut: its loops can't be joined, or their polygon can't be cut
 pub record IsStuck (numbers : Option (List Value21)) (points : List Point) (face : Instance) : Type 0 where
   pub outlined : IsOutlined face
-  pub corners : List Point
-  pub are_corners : AreCorners numbers points (outline face) corners
-  pub stuck : cut_of corners ≡ None
+  pub outer : List Point
+  pub inner : List (List Point)
+  pub are_loops : AreLoopsOf numbers points face outer inner
+  pub stuck : ears_of outer inner ≡ None
+
+-- a face with voids whose loops can't be joined
+pub record IsUnbridged (numbers : Option (List Value21)) (points : List Point)
+    (face : Instance) : Type 0 where
+  pub outlined : IsOutlined face
+  pub outer : List Point
+  pub inner : List (List Point)
+  pub are_loops : AreLoopsOf numbers points face outer inner
+  pub apart : AreApart outer inner
 
 -- each of these gives triangles, and those are all of them, in their order
 abbrev pub Joined : {X : Type 0} → (X → List Triangle → Type 0) → List X → List Triangle → Type 0
@@ -180,22 +216,35 @@ SetTriangles world points set triangles =
     (Joined (IsCut (numbering set) points) (faces_of world set) triangles)
     (AreTriangles (numbering set) points (spelled_triangles set) triangles)
 
+-- what an inner loop adds to the triangles of a face: its bridge stands in the polygon there and back
+abbrev pub loop_count : List Value21 → ℕ
+loop_count loop = length loop + 2
+
 -- a polygon of n corners gives n - 2 triangles
 abbrev pub face_count : Instance → ℕ
-face_count face = length (outline face) - 2
+face_count face = (length (outline face) - 2) + sum_by loop_count (inner_loops face)
 
 -- how many triangles a set has
 abbrev pub triangle_count : List Instance → Instance → ℕ
 triangle_count world set = if is_polygonal set
     then sum_by face_count (faces_of world set) else length (spelled_triangles set)
 
--- the face of that number is one of the set's, and can't be cut
-pub record HasStuck (world : List Instance) (points : List Point) (set : Instance) (id : ℕ) : Type 0 where
+-- the face of that number is one of the set's, and something holds of it by the set's points
+pub record HasFace (Is : Option (List Value21) → List Point → Instance → Type 0) (world : List Instance)
+    (points : List Point) (set : Instance) (id : ℕ) : Type 0 where
   pub polygonal : is_polygonal set ≡ true
   pub listed : Contains (face_ids set) id
   pub face : Instance
   pub found : look world id ≡ Some face
-  pub stuck : IsStuck (numbering set) points face
+  pub such : Is (numbering set) points face
+
+-- .. and can't be cut
+abbrev pub HasStuck : List Instance → List Point → Instance → ℕ → Type 0
+HasStuck = HasFace IsStuck
+
+-- .. because its loops can't be joined
+abbrev pub HasUnbridged : List Instance → List Point → Instance → ℕ → Type 0
+HasUnbridged = HasFace IsUnbridged
 
 -- What the earlier checks leave of a set.
 

@@ -7,7 +7,7 @@ use Rattle.p21_values.specs.declared.value.Value21.{Value21}
 use Rattle.p21_values.specs.declared.value.Instance.{Instance}
 use Rattle.p21_values.specs.InstanceLookup.{look}
 use Rattle.faceset.specs.Indexes.{PointsNowhere}
-use Rattle.faceset.specs.FaceSets.{outline}
+use Rattle.faceset.specs.FaceSets.{all_corners}
 
 -- where there are so many things, or more, an index counts one of them
 abbrev pub CountsFrom : ℕ → Value21 → Type 0
@@ -21,7 +21,7 @@ kept_in entries id = lookup (is_at (nat_cmp id)) entries
 pub record FaceCountsFrom (world : List Instance) (id reach : ℕ) : Type 0 where
   pub face : Instance
   pub found : look world id ≡ Some face
-  pub reaches : All (CountsFrom reach) (outline face)
+  pub reaches : All (CountsFrom reach) (all_corners face)
 
 -- what stands there by the numbers of faces is so; a face may lack
 abbrev pub AreReaches : List Instance → List (ℕ × ℕ) → Type 0

@@ -3,14 +3,14 @@ ghost use Rattle.std.specs.Prelude.{◌≡◌, ◌<◌, ◌^◌, ◌∷◌, [], 
 ghost use Rattle.std.specs.Bool.{MatchBool};
 ghost use Rattle.faceset.specs.Indexes.{PointsNowhere};
 ghost use Rattle.p21_values.specs.Attributes.{items_in, led_to};
-ghost use Rattle.faceset.specs.FaceSets.{outline, rows_of, HasBadNumber, HasBadIndex, counted_by};
+ghost use Rattle.faceset.specs.FaceSets.{all_corners, rows_of, HasBadNumber, HasBadIndex, counted_by};
 ghost use Rattle.faceset.specs.Reaches.{AreReaches};
 ghost use Rattle.faceset.specs.Learnt.{IsLearnt};
 
 use crate::indexes::place_of;
 use crate::learnt::Learnt;
-use crate::reaches::{FaceReaches, reach_of};
-use crate::sets::{is_polygonal, numbering, outline};
+use crate::reaches::{FaceReaches, reach_of_face};
+use crate::sets::{is_polygonal, numbering};
 use p21_table::{Exchange, InstanceRef, ValueRef, Values};
 use std::alloc::AllocError;
 
@@ -54,8 +54,8 @@ fn is_bad_face(
     requires few { count < 2 ^ 63 }
     requires known { AreReaches exchange.now reaches.old }
     ensures bad { IfOk result (λ bad. MatchBool bad
-        (Any (Any (PointsNowhere count)) (map outline (led_to exchange.now (value.now ∷ []))))
-        (Any (Any (PointsNowhere count)) (map outline (led_to exchange.now (value.now ∷ []))) → ⊥)) }
+        (Any (Any (PointsNowhere count)) (map all_corners (led_to exchange.now (value.now ∷ []))))
+        (Any (Any (PointsNowhere count)) (map all_corners (led_to exchange.now (value.now ∷ []))) → ⊥)) }
     ensures kept { OnOk result (AreReaches exchange.now reaches.new) }
 {
     let Some(id) = value.reference() else {
@@ -67,7 +67,7 @@ fn is_bad_face(
     if reaches.is_within(id, count) {
         return Ok(false);
     }
-    let Some(reach) = reach_of(&outline(&face), count) else {
+    let Some(reach) = reach_of_face(&face, count) else {
         return Ok(true);
     };
     reaches.put(id, reach)?;
@@ -84,8 +84,8 @@ fn has_bad_face(
     requires few { count < 2 ^ 63 }
     requires known { AreReaches exchange.now reaches.old }
     ensures bad { IfOk result (λ bad. MatchBool bad
-        (Any (Any (PointsNowhere count)) (map outline (led_to exchange.now values.now)))
-        (Any (Any (PointsNowhere count)) (map outline (led_to exchange.now values.now)) → ⊥)) }
+        (Any (Any (PointsNowhere count)) (map all_corners (led_to exchange.now values.now)))
+        (Any (Any (PointsNowhere count)) (map all_corners (led_to exchange.now values.now)) → ⊥)) }
     ensures kept { OnOk result (AreReaches exchange.now reaches.new) }
 {
     for value in values.iter() {

@@ -1,30 +1,40 @@
 //! Faces cut into triangles.
-ghost use Rattle.std.specs.Prelude.{◌≡◌, ◌≤◌, ◌<◌, ◌+◌, length, map, All, Any, IfOk, IfSome, MatchOption, option_copied};
+ghost use Rattle.std.specs.Prelude.{◌≡◌, ◌<◌, length, map, All, Any, IfOk, MatchOption, option_copied};
+ghost use Rattle.std.specs.List.{AllZip};
 ghost use Rattle.bim_model.specs.Points.{IsGridPoint};
-ghost use Rattle.ear_cut.specs.Areas.{point_at};
-ghost use Rattle.ear_cut.specs.Removal.{cut_of};
-ghost use Rattle.faceset.specs.FaceSets.{AreCorners, triangle_of, outline, IsMisnamed, most_corners};
-ghost use Rattle.faceset.specs.inner.Cuts.{CutsInto, IsOutcome, IsCounted};
+ghost use Rattle.p21_values.specs.Attributes.{items_in};
+ghost use Rattle.void_bridge.specs.HoleLoops.{IsLoop, AreLoops};
+ghost use Rattle.faceset.specs.FacePolygons.{face_points};
+ghost use Rattle.faceset.specs.FaceSets.{AreCorners, triangle_of, IsMisnamed};
+ghost use Rattle.faceset.specs.inner.Cuts.{IsOutcome, IsCounted, IsUnread, AreRead};
 
+use crate::loop_corners::has_many_corners;
 use crate::naming::corner;
-use crate::sets::outline;
+use crate::polygons::{LoopsCut, add_loops, cut_loops, point_at};
+use crate::sets::{outline, spelled_loops};
 use bim_model::{Point, Triangle};
-use ear_cut::{CutFault, Ear, cut};
+use ear_cut::Ear;
 use p21_table::{InstanceRef, ValueRef, Values};
 use std::alloc::{AllocError, Global};
-
-/// The most corners that a face may have.
-pub const MOST_CORNERS: usize = 1_000;
 
 /// What comes of a face.
 #[derive(Drop)]
 pub enum Outcome {
     /// It is cut into these triangles.
     Cut(Vec<Triangle>),
-    /// It can't be cut.
+    /// Its polygon can't be cut.
     Stuck,
-    /// It has too few corners or too many, or an index names no point. An earlier check names its fault.
+    /// Its loops can't be joined.
+    Unbridged,
+    /// A loop has too few corners or all together too many, or an index names no point. An earlier check names its fault.
     Unready,
+}
+
+/// The points of the loops of a face.
+#[derive(Drop)]
+pub struct FaceLoops {
+    pub outer: Vec<Point>,
+    pub inner: Vec<Vec<Point>>,
 }
 
 /// The corners that indexes name, in their order. None where one names no point.
@@ -50,13 +60,64 @@ fn corners_of(
     Ok(Some(made))
 }
 
-/// The corner at a place.
-fn point_at(corners: &[Point], place: u32) -> Point
-    ensures { result ≡ point_at corners.now place }
+/// The corners of a loop. None where it has fewer than three, or an index names no point.
+fn loop_of(
+    alloc: Global,
+    numbers: Option<&[ValueRef<'_>]>,
+    indexes: &Values<'_>,
+    points: &[Point],
+) -> Result<Option<Vec<Point>>, AllocError>
+    requires { All IsGridPoint points.now }
+    ensures { IfOk result (λ found. MatchOption found
+        (IsUnread (option_copied numbers.entry) points.now indexes.now)
+        (λ made. AreCorners (option_copied numbers.entry) points.now indexes.now made.items
+        × IsLoop made.items)) }
 {
-    match corners.get(place as usize) {
-        Some(corner) => *corner,
-        None => Point { x: 0, y: 0, z: 0 },
+    if indexes.len() < 3 {
+        return Ok(None);
+    }
+    corners_of(alloc, numbers, indexes, points)
+}
+
+/// The corners of loops. None where one has fewer than three, or an index names no point.
+fn loops_among(
+    alloc: Global,
+    numbers: Option<&[ValueRef<'_>]>,
+    rows: &Values<'_>,
+    points: &[Point],
+) -> Result<Option<Vec<Vec<Point>>>, AllocError>
+    requires { All IsGridPoint points.now }
+    ensures { IfOk result (λ found. MatchOption found
+        (Any (IsUnread (option_copied numbers.entry) points.now) (map items_in rows.now))
+        (λ made. AllZip (AreCorners (option_copied numbers.entry) points.now) (map items_in rows.now)
+        (map (λ ring. ring.items) made.items) × AreLoops (map (λ ring. ring.items) made.items))) }
+{
+    let mut made = Vec::new(alloc);
+    for row in rows.iter() {
+        match loop_of(alloc, numbers, &row.items_in(), points)? {
+            Some(corners) => made.push(corners)?,
+            None => return Ok(None),
+        }
+    }
+    Ok(Some(made))
+}
+
+/// The points of the loops of a face. None where a loop has fewer than three corners, or an index names no point.
+fn loops_of(
+    alloc: Global,
+    numbers: Option<&[ValueRef<'_>]>,
+    points: &[Point],
+    face: &InstanceRef<'_>,
+) -> Result<Option<FaceLoops>, AllocError>
+    requires { All IsGridPoint points.now }
+    ensures { IfOk result (AreRead (option_copied numbers.entry) points.now face.now) }
+{
+    let Some(outer) = loop_of(alloc, numbers, &outline(face), points)? else {
+        return Ok(None);
+    };
+    match loops_among(alloc, numbers, &spelled_loops(face), points)? {
+        Some(inner) => Ok(Some(FaceLoops { outer, inner })),
+        None => Ok(None),
     }
 }
 
@@ -80,20 +141,15 @@ fn triangles_of(alloc: Global, corners: &[Point], ears: &[Ear]) -> Result<Vec<Tr
     Ok(made)
 }
 
-/// The triangles of a polygon. None where it can't be cut.
-fn cut_corners(alloc: Global, corners: &[Point]) -> Result<Option<Vec<Triangle>>, AllocError>
-    requires three { 2 < length corners.now }
-    requires few { length corners.now ≤ most_corners }
-    requires in_grid { All IsGridPoint corners.now }
-    ensures triangles { IfOk result
-        (λ found. MatchOption found (cut_of corners.now ≡ None) (λ made. CutsInto corners.now made.items)) }
-    ensures count { IfOk result (λ found. IfSome found (λ made. length made.items + 2 ≡ length corners.now)) }
+/// The triangles of a face, by the places of their corners among those of its loops.
+fn made_of(alloc: Global, loops: FaceLoops, ears: &[Ear]) -> Result<Vec<Triangle>, AllocError>
+    ensures { IfOk result (λ made. made.items ≡ map (triangle_of
+        (face_points loops.outer.items (map (λ ring. ring.items) loops.inner.items))) ears.now) }
 {
-    match cut(alloc, corners) {
-        Ok(ears) => Ok(Some(triangles_of(alloc, corners, &ears)?)),
-        Err(CutFault::Stuck) => Ok(None),
-        Err(CutFault::Memory) => Err(AllocError),
-    }
+    let FaceLoops { outer, inner } = loops;
+    let mut corners = outer;
+    add_loops(&mut corners, &inner)?;
+    triangles_of(alloc, &corners, ears)
 }
 
 /// What comes of a face of a set with these numbers of points and these points.
@@ -107,16 +163,15 @@ pub fn cut_face(
     ensures outcome { IfOk result (IsOutcome (option_copied numbers.entry) points.now face.now) }
     ensures count { IfOk result (IsCounted face.now) }
 {
-    let indexes = outline(face);
-    let count = indexes.len();
-    if count < 3 || count > MOST_CORNERS {
+    if has_many_corners(face) {
         return Ok(Outcome::Unready);
     }
-    let Some(corners) = corners_of(alloc, numbers, &indexes, points)? else {
+    let Some(loops) = loops_of(alloc, numbers, points, face)? else {
         return Ok(Outcome::Unready);
     };
-    match cut_corners(alloc, &corners)? {
-        Some(triangles) => Ok(Outcome::Cut(triangles)),
-        None => Ok(Outcome::Stuck),
+    match cut_loops(alloc, &loops.outer, &loops.inner)? {
+        LoopsCut::Cut(ears) => Ok(Outcome::Cut(made_of(alloc, loops, &ears)?)),
+        LoopsCut::Stuck => Ok(Outcome::Stuck),
+        LoopsCut::Apart => Ok(Outcome::Unbridged),
     }
 }

@@ -39,6 +39,7 @@ fn face_triangles(
     match cut_face(alloc, numbers, points, &face)? {
         Outcome::Cut(triangles) => Ok(Some(triangles)),
         Outcome::Stuck => Ok(None),
+        Outcome::Unbridged => Ok(None),
         Outcome::Unready => Ok(None),
     }
 }

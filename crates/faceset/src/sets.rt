@@ -1,6 +1,6 @@
 //! What face sets say.
 ghost use Rattle.std.specs.Prelude.{◌≡◌, IfOk, option_map};
-ghost use Rattle.faceset.specs.FaceSets.{spelled_points, is_polygonal, is_set, numbering, outline};
+ghost use Rattle.faceset.specs.FaceSets.{spelled_points, is_polygonal, is_set, is_face, numbering, outline, spelled_loops};
 
 use ifc_instances::Entity;
 use p21_table::{Exchange, InstanceRef, ValueRef, Values};
@@ -20,11 +20,30 @@ pub fn is_set(instance: &InstanceRef<'_>) -> bool
     Entity::TriangulatedFaceSet.includes(instance) || is_polygonal(instance)
 }
 
+/// Whether it is a face of a polygonal set, with voids or without.
+pub fn is_face(instance: &InstanceRef<'_>) -> bool
+    ensures { result ≡ is_face instance.now }
+{
+    Entity::Face.includes(instance) || Entity::FaceWithVoids.includes(instance)
+}
+
 /// The indexes of the corners of a face (IFC4 ADD2 TC1, IfcIndexedPolygonalFace, CoordIndex).
 pub fn outline<'a>(face: &InstanceRef<'a>) -> Values<'a>
     ensures { result ≡ outline face.now }
 {
     face.listed(0)
+}
+
+/// The inner loops of a face, each a list of indexes (IFC4 ADD2 TC1, IfcIndexedPolygonalFaceWithVoids, InnerCoordIndices). A
+/// face without voids has none.
+pub fn spelled_loops<'a>(face: &InstanceRef<'a>) -> Values<'a>
+    ensures { result ≡ spelled_loops face.now }
+{
+    if Entity::FaceWithVoids.includes(face) {
+        face.listed(1)
+    } else {
+        Values::none()
+    }
 }
 
 /// The points of a set, as they are spelled.

@@ -41,7 +41,7 @@ use Rattle.model_build.proofs.AttributesFormed.{Shaped, At, OrAway, SpellsNumber
 use Rattle.model_build.proofs.UsedFormed.{ThreeOf, NamesUsed, named_at, point_numbers, list_numbers, listed_there, element_guid, guid_there, placement_used}
 use Rattle.model_build.proofs.BodiesFormed.{UsedAs, IsBody}
 use Rattle.model_build.proofs.SetsFormed.{either, set_points, origin_used}
-use Rattle.model_build.proofs.ItemsSupported.{NoneShown, Solid, Few, IsItem, IsSet, IsMappedItem, Names, body_names, sets_named, operator_there, faces_outlined, rows_three, element_is, element_bodies, element_some}
+use Rattle.model_build.proofs.ItemsSupported.{NoneShown, Few, IsItem, IsSet, IsMappedItem, Names, body_names, sets_named, operator_there, faces_outlined, rows_three, element_is, element_bodies, element_some}
 use Rattle.ifc_elements.proofs.TablesOfPoints.{points_told}
 use Rattle.model_build.proofs.NumbersReadable.{readable_point, readable_points}
 
@@ -93,9 +93,9 @@ list_there world table scale mode id i t shaped measured u found is =
 abbrev pub Indexed : List Instance → Type 0
 Indexed world = (id : ℕ) → Used world id → IsBadSet world id → ⊥
 
-set_rows : (world : List Instance) (s : Instance) → Shaped world → Solid world → Few world → UsedAs world IsSet s → MatchBool (is_polygonal s) (All IsOutlined (faces_of world s)) (All HasThree (spelled_triangles s))
-set_rows world s shaped solid few u = elim (cases_Bool (is_polygonal s)) [
-  | inl t ↦ rw t (faces_outlined world s shaped solid few u t)
+set_rows : (world : List Instance) (s : Instance) → Shaped world → Few world → UsedAs world IsSet s → MatchBool (is_polygonal s) (All IsOutlined (faces_of world s)) (All HasThree (spelled_triangles s))
+set_rows world s shaped few u = elim (cases_Bool (is_polygonal s)) [
+  | inl t ↦ rw t (faces_outlined world s shaped few u t)
   | inr n ↦ rw n (rows_three world s shaped u n)
 ]
 
@@ -108,9 +108,9 @@ points_many world scale mode s list points refers l =
     let same = ap (λ o. length (listed_in o)) e in
     omega (arith, long, same)
 
-set_sound : (world : List Instance) (table : List (Option (List Point))) (scale : Scale) (mode : Mode) → IsTable world scale mode table → Shaped world → Measured world scale mode → Indexed world → Solid world → Few world
+set_sound : (world : List Instance) (table : List (Option (List Point))) (scale : Scale) (mode : Mode) → IsTable world scale mode table → Shaped world → Measured world scale mode → Indexed world → Few world
     → (s : Instance) → UsedAs world IsSet s → IsSoundSet world scale mode s
-set_sound world table scale mode t shaped measured indexed solid few s u =
+set_sound world table scale mode t shaped measured indexed few s u =
     let n = named_at world s 0 entity.PointList (set_points world u.id s shaped u.used u.found u.holds) in
     let l = list_there world table scale mode n.0 n.2.1.instance t shaped measured n.2.0 n.2.1.found n.2.1.holds in
     record {
@@ -119,7 +119,7 @@ set_sound world table scale mode t shaped measured indexed solid few s u =
       points = l.0;
       listed = l.1;
       sound = record {
-        rows = set_rows world s shaped solid few u;
+        rows = set_rows world s shaped few u;
         indexed = λ bad. indexed u.id u.used (record { instance = s; found = u.found; holds = (u.holds, bad) });
         count = points_many world scale mode s n.0 l.0 n.1 l.1;
       };
@@ -257,9 +257,9 @@ standing_there world ids chains id i has c found a = record {
   ];
 }
 
-element_ready : (world : List Instance) (scale : Scale) (mode : Mode) (listed ids chains : List ℕ) → Clean world scale mode listed → Solid world → Few world
+element_ready : (world : List Instance) (scale : Scale) (mode : Mode) (listed ids chains : List ℕ) → Clean world scale mode listed → Few world
     → HasChains world ids chains → (id : ℕ) → Contains ids id → (e : IsModelElement world id) → Never (Never (IsReady world scale mode chains listed e.instance))
-element_ready world scale mode listed ids chains k solid few has id c e none =
+element_ready world scale mode listed ids chains k few has id c e none =
     let u = element_used world id e in
     let is = element_is world id e in
     bodies_ready world scale mode listed k (bodies world e.instance) (element_bodies world id e)
@@ -268,7 +268,7 @@ element_ready world scale mode listed ids chains k solid few has id c e none =
       class = keyword_there e.instance is.0;
       standing = standing_there world ids chains id e.instance has c e.found (placement_used world id e.instance k.shaped u e.found is.0 is.1);
       items = items;
-      some = element_some world scale mode id k.shaped k.none solid few e;
+      some = element_some world scale mode id k.shaped k.none few e;
     }))
 
 -- Of a file that is measured.
@@ -284,9 +284,6 @@ clean file h =
       all = s.used.all;
     }
 
-solid_there : (file : File) → IsMeasured file → Solid file.exchange
-solid_there file h id u = h.supported.solid id (h.supported.opened.surveyed.used.all id u)
-
 few_there : (file : File) → IsMeasured file → Few file.exchange
 few_there file h id u f = let c = h.supported.opened.surveyed.used.all id u in h.few (c.0, id, c.1, c.2, f)
 
@@ -294,14 +291,14 @@ few_there file h id u f = let c = h.supported.opened.surveyed.used.all id u in h
 pub sets_sound : (file : File) (table : List (Option (List Point))) → IsTable file.exchange file.scale file.mode table → IsMeasured file → AreSound file.exchange file.scale file.mode (used_ids file.survey)
 sets_sound file table t h id c s found is =
     let k = clean file h in
-    set_sound file.exchange table file.scale file.mode t k.shaped k.measured (λ n u. h.supported.indexed n (k.all n u)) (solid_there file h) (few_there file h) s
+    set_sound file.exchange table file.scale file.mode t k.shaped k.measured (λ n u. h.supported.indexed n (k.all n u)) (few_there file h) s
     (record { id = id; used = h.supported.opened.surveyed.used.each id c; found = found; holds = is })
 
 -- it can't be that an element isn't ready
 pub elements_ready : (file : File) → IsMeasured file → AreReady file.exchange file.scale file.mode file.chains (used_ids file.survey) (element_ids file.survey)
 elements_ready file h id c none =
     let e = h.supported.opened.surveyed.elements.each id c in
-    element_ready file.exchange file.scale file.mode (used_ids file.survey) (element_ids file.survey) file.chains (clean file h) (solid_there file h) (few_there file h) h.supported.opened.has_chains id c e
+    element_ready file.exchange file.scale file.mode (used_ids file.survey) (element_ids file.survey) file.chains (clean file h) (few_there file h) h.supported.opened.has_chains id c e
     (λ r. none (record { instance = e.instance; found = e.found; holds = r }))
 
 pub count_some : (world : List Instance) (scale : Scale) (mode : Mode) (placements listed ids : List ℕ) → AreReady world scale mode placements listed ids → (id : ℕ) → Contains ids id → 0 < count_of world id

@@ -11,8 +11,8 @@ use Rattle.ifc_instances.proofs.Rising.{before}
 use Rattle.ifc_schema.specs.Used.{Used}
 use Rattle.ifc_schema.specs.Surveys.{Lists}
 use Rattle.model_build.specs.StageFaults.{LeastFault}
-use Rattle.model_build.specs.FaultyInstances.{IsLeastOf, NoneOf, IsVoided, IsBadSet, IsOblique}
-use Rattle.model_build.specs.Stages.{ObliqueStage, VoidStage, IndexStage}
+use Rattle.model_build.specs.FaultyInstances.{IsLeastOf, NoneOf, IsBadSet, IsOblique}
+use Rattle.model_build.specs.Stages.{ObliqueStage, IndexStage}
 
 pub least_here : (P : ℕ → Type 0) (ids : List ℕ) (i : ℕ) → IsStrictlyIncreasing ids → i < length ids → All (λ k. P k → ⊥) (take i ids) → P (get_or ids i 0) → IsLeastOf ids P (get_or ids i 0)
 least_here P ids i rises lt none h = record {
@@ -45,11 +45,3 @@ index_least world used id ls h = used_least world (IsBadSet world) (λ k. faults
 
 pub oblique_least : (world : List Instance) (used : List ℕ) (id : ℕ) → Lists (Used world) used → IsLeastOf used (IsOblique world) id → ObliqueStage world (faults.Oblique id)
 oblique_least world used id ls h = used_least world (IsOblique world) (λ k. faults.Oblique k) used id ls h
-
-pub void_least : (world : List Instance) (used : List ℕ) (id : ℕ) → Lists (Used world) used → IsLeastOf used (IsVoided world) id → VoidStage world (faults.VoidedFace id)
-void_least world used id ls h = record {
-  id = id;
-  of = (ls.each id h.listed, h.here);
-  here = refl;
-  lower = λ k low u other g. h.lower k low (ls.all k u.0) u.1;
-}

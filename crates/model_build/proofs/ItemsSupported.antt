@@ -19,28 +19,23 @@ use Rattle.ifc_schema.specs.Surveys.{IsModelElement, is_subject}
 use Rattle.ifc_schema.proofs.Listing.{element_used}
 use Rattle.ifc_units.specs.declared.scale.Scale.{Scale}
 use Rattle.p21_values.specs.Attributes.{listed, reference_at, target_at, led_to}
-use Rattle.faceset.specs.FaceSets.{is_set, is_polygonal, faces_of, outline, spelled_triangles, face_count, triangle_count, HasThree, IsOutlined}
+use Rattle.faceset.specs.FaceSets.{is_set, is_polygonal, is_face, faces_of, outline, inner_loops, all_corners, spelled_triangles, face_count, triangle_count, HasThree, IsOutlined}
 use Rattle.ifc_elements.specs.Finding.{Finds}
 use Rattle.model_build.specs.Stages.{IsUsed}
 use Rattle.ifc_elements.specs.Items.{bodies, spelled_items, items_of, body_items, is_mapped_item, is_item, map_of, listed_by, spelled_sets, mapped_sets, item_count}
 use Rattle.model_build.specs.Unsupported.{IsUnsupported}
-use Rattle.model_build.specs.Faces.{HasManyCorners, is_face}
-use Rattle.model_build.specs.FaultyInstances.{IsVoided}
+use Rattle.model_build.specs.Faces.{HasManyCorners}
 use Rattle.model_build.proofs.OneKeyword.{is_a_held, both}
 use Rattle.model_build.proofs.AttributesFormed.{Shaped, Refers, SpellsWhole}
 use Rattle.model_build.proofs.UsedFormed.{ThreeOf, listed_there, listed_some, triangles_whole, three_values}
 use Rattle.model_build.proofs.BodiesFormed.{UsedAs, IsBody, led_each, bodies_used, bodies_some}
-use Rattle.model_build.proofs.SetsFormed.{either, is_map, item_meant, face_meant, stands_in, list_used, NamesUsedOne, faces_used, faces_some, corners_some, map_used, target_there, target_used, representation_used, items_attribute, items_row, HasItems, items_there}
+use Rattle.model_build.proofs.SetsFormed.{either, is_map, item_meant, face_meant, stands_in, list_used, NamesUsedOne, faces_used, faces_some, corners_some, voided_some, rings_some, map_used, target_there, target_used, representation_used, items_attribute, items_row, HasItems, items_there}
 
 -- nothing is unsupported
 abbrev pub NoneShown : List Instance → Scale → Mode → Type 0
 NoneShown world scale mode = (id : ℕ) → IsUnsupported world scale mode id → ⊥
 
--- no face that is used has voids
-abbrev pub Solid : List Instance → Type 0
-Solid world = (id : ℕ) → Used world id → IsVoided world id → ⊥
-
--- none has more than a thousand corners
+-- no face that is used has more than a thousand corners
 abbrev pub Few : List Instance → Type 0
 Few world = (id : ℕ) → Used world id → Finds world id HasManyCorners → ⊥
 
@@ -276,18 +271,30 @@ operator_there world scale mode item shaped none u =
 
 -- Sets.
 
--- a face has three corners or more, at most a thousand
-pub face_outlined : (world : List Instance) → Shaped world → Solid world → Few world → (id : ℕ) (face : Instance) → Used world id → look world id ≡ Some face → is_face face ≡ true → IsOutlined face
-face_outlined world shaped solid few id face u found is = elim (either (is_a entity.Face face) (is_a entity.FaceWithVoids face) is) [
-  | inl plain ↦ (
-    (let c = corners_some world id face shaped u found plain in omega (arith, c)),
-    elim (near_or_far (length (outline face)) 1000) [
-      | inl near ↦ near
-      | inr far ↦ absurd (few id u (record { instance = face; found = found; holds = (is, far) }))
-    ],
-  )
-  | inr voided ↦ absurd (solid id u (record { instance = face; found = found; holds = voided }))
+-- an outline has three corners or more
+outline_some : (world : List Instance) → Shaped world → (id : ℕ) (face : Instance) → Used world id → look world id ≡ Some face → is_face face ≡ true → 2 < length (outline face)
+outline_some world shaped id face u found is = elim (either (is_a entity.Face face) (is_a entity.FaceWithVoids face) is) [
+  | inl plain ↦ (let c = corners_some world id face shaped u found plain in omega (arith, c))
+  | inr voided ↦ (let c = voided_some world id face shaped u found voided in omega (arith, c))
 ]
+
+-- so has each inner loop
+loops_some : (world : List Instance) → Shaped world → (id : ℕ) (face : Instance) → Used world id → look world id ≡ Some face → All (λ (loop : List Value21). 2 < length loop) (inner_loops face)
+loops_some world shaped id face u found = elim (cases_Bool (is_a entity.FaceWithVoids face)) [
+  | inl voided ↦ rw voided (rings_some world id face shaped u found voided)
+  | inr plain ↦ rw plain (λ k d lt. absurd (omega (arith, lt)))
+]
+
+-- a face has three corners or more in each loop, and at most a thousand in all
+pub face_outlined : (world : List Instance) → Shaped world → Few world → (id : ℕ) (face : Instance) → Used world id → look world id ≡ Some face → is_face face ≡ true → IsOutlined face
+face_outlined world shaped few id face u found is = record {
+  outer = outline_some world shaped id face u found is;
+  inner = loops_some world shaped id face u found;
+  few = elim (near_or_far (length (all_corners face)) 1000) [
+    | inl near ↦ near
+    | inr far ↦ absurd (few id u (record { instance = face; found = found; holds = (is, far) }))
+  ];
+}
   where
     near_or_far : (a b : ℕ) → (a ≤ b) ⊎ (b < a)
     near_or_far a b = grind arith
@@ -302,10 +309,10 @@ all_more : (P Q : Instance → Type 0) → ((x : Instance) → P x → Q x) → 
 all_more P Q f xs h = λ k d lt. f (get_or xs k d) (h k d lt)
 
 -- so have the faces of a polygonal set that is used
-pub faces_outlined : (world : List Instance) (s : Instance) → Shaped world → Solid world → Few world → UsedAs world IsSet s → is_polygonal s ≡ true → All IsOutlined (faces_of world s)
+pub faces_outlined : (world : List Instance) (s : Instance) → Shaped world → Few world → UsedAs world IsSet s → is_polygonal s ≡ true → All IsOutlined (faces_of world s)
 unfolding faces_of
-faces_outlined world s shaped solid few u is =
-    all_more (UsedAs world (λ f. is_face f ≡ true)) IsOutlined (λ f n. face_outlined world shaped solid few n.id f n.used n.found n.holds) (faces_of world s)
+faces_outlined world s shaped few u is =
+    all_more (UsedAs world (λ f. is_face f ≡ true)) IsOutlined (λ f n. face_outlined world shaped few n.id f n.used n.found n.holds) (faces_of world s)
     (names_led world (λ f. is_face f ≡ true) (listed s 2) (faces_named world s shaped u is))
 
 faces_many : (world : List Instance) (s : Instance) → Shaped world → UsedAs world IsSet s → is_polygonal s ≡ true → 0 < length (faces_of world s)
@@ -323,22 +330,22 @@ pub rows_three : (world : List Instance) (s : Instance) → Shaped world → Use
 rows_three world s shaped u n = three_values world u.id s shaped u.used u.found (triangulated world s u n)
 
 -- a set has a triangle
-pub set_some : (world : List Instance) (s : Instance) → Shaped world → Solid world → Few world → UsedAs world IsSet s → 0 < triangle_count world s
-set_some world s shaped solid few u = elim (cases_Bool (is_polygonal s)) [
-  | inl t ↦ rw t (sum_some face_count IsOutlined (λ f o. (let l = o.0 in omega (arith, l))) (faces_of world s) (faces_outlined world s shaped solid few u t) (faces_many world s shaped u t))
+pub set_some : (world : List Instance) (s : Instance) → Shaped world → Few world → UsedAs world IsSet s → 0 < triangle_count world s
+set_some world s shaped few u = elim (cases_Bool (is_polygonal s)) [
+  | inl t ↦ rw t (sum_some face_count IsOutlined (λ f o. (let l = o.outer in omega (arith, l))) (faces_of world s) (faces_outlined world s shaped few u t) (faces_many world s shaped u t))
   | inr n ↦ rw n (listed_some s 3 (ThreeOf SpellsWhole) (triangles_whole world u.id s shaped u.used u.found (triangulated world s u n)))
 ]
 
 -- so has an item
-pub item_some : (world : List Instance) (scale : Scale) (mode : Mode) (i : Instance) → Shaped world → NoneShown world scale mode → Solid world → Few world → UsedAs world IsItem i → 0 < item_count world i
-item_some world scale mode i shaped none solid few u = elim (cases_Bool (is_mapped_item i)) [
+pub item_some : (world : List Instance) (scale : Scale) (mode : Mode) (i : Instance) → Shaped world → NoneShown world scale mode → Few world → UsedAs world IsItem i → 0 < item_count world i
+item_some world scale mode i shaped none few u = elim (cases_Bool (is_mapped_item i)) [
   | inl t ↦ (
       let v : UsedAs world IsMappedItem i = record { id = u.id; used = u.used; found = u.found; holds = t } in
       let names = sets_named world scale mode i shaped none v in
       let many = names_many world IsSet (spelled_sets world i) names in
       let some = sets_some world i shaped v in
-      rw t (sum_some (triangle_count world) (UsedAs world IsSet) (λ s w. set_some world s shaped solid few w) (mapped_sets world i) (names_led world IsSet (spelled_sets world i) names) (omega (arith, many, some))))
-  | inr n ↦ rw n (set_some world i shaped solid few (record { id = u.id; used = u.used; found = u.found; holds = left n u.holds }))
+      rw t (sum_some (triangle_count world) (UsedAs world IsSet) (λ s w. set_some world s shaped few w) (mapped_sets world i) (names_led world IsSet (spelled_sets world i) names) (omega (arith, many, some))))
+  | inr n ↦ rw n (set_some world i shaped few (record { id = u.id; used = u.used; found = u.found; holds = left n u.holds }))
 ]
   where
     left : is_mapped_item i ≡ false → is_item i ≡ true → is_set i ≡ true
@@ -360,12 +367,12 @@ body_some world scale mode r shaped none b =
     omega (arith, e, some)
 
 -- it has a triangle
-pub element_some : (world : List Instance) (scale : Scale) (mode : Mode) (id : ℕ) → Shaped world → NoneShown world scale mode → Solid world → Few world → (h : IsModelElement world id)
+pub element_some : (world : List Instance) (scale : Scale) (mode : Mode) (id : ℕ) → Shaped world → NoneShown world scale mode → Few world → (h : IsModelElement world id)
     → 0 < sum_by (item_count world) (body_items world h.instance)
-element_some world scale mode id shaped none solid few h =
+element_some world scale mode id shaped none few h =
     let e = element_is world id h in
     let bs = element_bodies world id h in
     let rs = bodies world h.instance in
-    sum_some (item_count world) (UsedAs world IsItem) (λ i u. item_some world scale mode i shaped none solid few u) (body_items world h.instance)
+    sum_some (item_count world) (UsedAs world IsItem) (λ i u. item_some world scale mode i shaped none few u) (body_items world h.instance)
     (flat_all (UsedAs world IsItem) (UsedAs world IsBody) (items_of world) (λ r b. names_led world IsItem (spelled_items r) (body_names world scale mode r shaped none b)) rs bs)
     (flat_some (items_of world) (UsedAs world IsBody) (λ r b. body_some world scale mode r shaped none b) rs bs (bodies_some world h.instance e.1))

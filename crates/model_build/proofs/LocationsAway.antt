@@ -1,5 +1,5 @@
 -- Where lengths lie on the grid, and locations that lie away from its zero.
-use Rattle.std.proofs.Common.{◌≡◌, ℕ, zero, ◌<◌, ◌≤◌, ◌⊎◌, inl, inr, suc, Bool, true, false, ℤ, pos, List, [], ◌∷◌, length, get_or, Some, refl, sym, ap, ◌∙◌, subst, arith, w32, to_z, of_z, FitsSigned}
+use Rattle.std.proofs.Common.{◌≡◌, ℕ, zero, ◌<◌, ◌≤◌, ◌⊎◌, inl, inr, suc, Bool, true, false, ℤ, pos, [], ◌∷◌, length, get_or, Some, refl, sym, ap, ◌∙◌, subst, arith, w32, to_z, of_z, FitsSigned}
 use Rattle.std.specs.Prelude.{unsigned_abs}
 use Rattle.std.specs.Bool.{MatchBool}
 use Rattle.std.specs.List.{Any}

@@ -27,9 +27,8 @@ use Rattle.ifc_units.specs.Lengths.{InstanceRefused}
 use Rattle.ifc_units.proofs.UnitFacts.{one_unit, one_unit_fault}
 use Rattle.ifc_units.proofs.InstanceFacts.{one_instance_fault}
 use Rattle.spatial_tree.proofs.OneStorey.{one_storey, one_tree_fault}
-use Rattle.ifc_instances.specs.declared.entity.Entity.TheVariants.{FaceWithVoids}
 use Rattle.model_build.specs.StageFaults.{Stage, first_fault, LeastFault}
-use Rattle.model_build.specs.Stages.{LoopFault, ItemStage, IsUsed, LengthStage, StuckStage, ReachFault, ReachStage, InUnit, stages, FileFault}
+use Rattle.model_build.specs.Stages.{LoopFault, ItemStage, LengthStage, StuckFault, StuckStage, ReachFault, ReachStage, InUnit, stages, FileFault}
 use Rattle.model_build.specs.DuplicateGuids.{GuidFault}
 use Rattle.ifc_elements.specs.ElementTexts.{name_at}
 use Rattle.model_build.specs.NamedPlacements.{IsNamed}
@@ -80,16 +79,21 @@ length_one world scale mode id f g h k =
 unit_one : (world : List Instance) (S : Scale → Stage) → ((scale : Scale) → One (S scale)) → One (InUnit world S)
 unit_one world S one f g h k = one k.0 f g (subst (λ (s : Scale). S s f) (one_unit world h.0 k.0 h.1 k.1) h.2) k.2
 
+stuck_one : (world : List Instance) (mode : Mode) (scale : Scale) (id : ℕ) (f g : UploadFault) → StuckFault world mode scale id f → StuckFault world mode scale id g → f ≡ g
+stuck_one world mode scale id f g (inl h) (inl k) = h.1 ∙ sym k.1
+stuck_one world mode scale id f g (inl h) (inr k) = absurd (k.0 h.0)
+stuck_one world mode scale id f g (inr h) (inl k) = absurd (h.0 k.0)
+stuck_one world mode scale id f g (inr h) (inr k) = h.1 ∙ sym k.1
+
 pub one_file_fault : (world : List Instance) (mode : Mode) (f g : UploadFault) → FileFault world mode f → FileFault world mode g → f ≡ g
 one_file_fault world mode =
-    let reach : AllOne (drop 13 (stages world mode)) = (unit_one world (ReachStage world mode) (λ scale. least_one (IsModelElement world) (ReachFault world mode scale) (λ id f g h k. h.0 ∙ sym k.0)), tt) in
-    let triangles : AllOne (drop 12 (stages world mode)) = ((λ f g h k. h.0 ∙ sym k.0), reach) in
-    let stuck : AllOne (drop 11 (stages world mode)) = (unit_one world (StuckStage world mode) (λ scale. least_one (IsStuckFace world scale mode) (λ id fault. fault ≡ faults.FaceStuck id) (λ id f g h k. h ∙ sym k)), triangles) in
-    let corners : AllOne (drop 10 (stages world mode)) = ((λ f g h k. h.0 ∙ sym k.0), stuck) in
-    let lengths : AllOne (drop 9 (stages world mode)) = (unit_one world (LengthStage world mode) (λ scale. least_one (Used world) (LengthFault world scale mode) (length_one world scale mode)), corners) in
-    let indexes : AllOne (drop 8 (stages world mode)) = (least_one (Used world) (λ id fault. (fault ≡ faults.BadIndex id) × IsBadSet world id) (λ id f g h k. h.0 ∙ sym k.0), lengths) in
-    let voids : AllOne (drop 7 (stages world mode)) = (least_one (IsUsed FaceWithVoids world) (λ id fault. fault ≡ faults.VoidedFace id) (λ id f g h k. h ∙ sym k), indexes) in
-    let items : AllOne (drop 6 (stages world mode)) = (unit_one world (ItemStage world mode) (λ scale. least_one (IsUnsupported world scale mode) (λ id fault. fault ≡ faults.UnsupportedItem id) (λ id f g h k. h ∙ sym k)), voids) in
+    let reach : AllOne (drop 12 (stages world mode)) = (unit_one world (ReachStage world mode) (λ scale. least_one (IsModelElement world) (ReachFault world mode scale) (λ id f g h k. h.0 ∙ sym k.0)), tt) in
+    let triangles : AllOne (drop 11 (stages world mode)) = ((λ f g h k. h.0 ∙ sym k.0), reach) in
+    let stuck : AllOne (drop 10 (stages world mode)) = (unit_one world (StuckStage world mode) (λ scale. least_one (IsStuckFace world scale mode) (StuckFault world mode scale) (stuck_one world mode scale)), triangles) in
+    let corners : AllOne (drop 9 (stages world mode)) = ((λ f g h k. h.0 ∙ sym k.0), stuck) in
+    let lengths : AllOne (drop 8 (stages world mode)) = (unit_one world (LengthStage world mode) (λ scale. least_one (Used world) (LengthFault world scale mode) (length_one world scale mode)), corners) in
+    let indexes : AllOne (drop 7 (stages world mode)) = (least_one (Used world) (λ id fault. (fault ≡ faults.BadIndex id) × IsBadSet world id) (λ id f g h k. h.0 ∙ sym k.0), lengths) in
+    let items : AllOne (drop 6 (stages world mode)) = (unit_one world (ItemStage world mode) (λ scale. least_one (IsUnsupported world scale mode) (λ id fault. fault ≡ faults.UnsupportedItem id) (λ id f g h k. h ∙ sym k)), indexes) in
     let axes : AllOne (drop 5 (stages world mode)) = (least_one (Used world) (λ id fault. (fault ≡ faults.Oblique id) × IsOblique world id) (λ id f g h k. h.0 ∙ sym k.0), items) in
     let loops : AllOne (drop 4 (stages world mode)) = (least_one (IsNamed world (IsModelElement world)) (LoopFault world) (λ id f g h k. h.0 ∙ sym k.0), axes) in
     let guids : AllOne (drop 3 (stages world mode)) = (least_one (IsModelElement world) (GuidFault world (IsModelElement world)) (λ id f g h k. h.0 ∙ sym k.0), loops) in

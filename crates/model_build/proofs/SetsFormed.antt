@@ -1,8 +1,10 @@
 -- What sets, faces, mapped items, their maps and their operators have, where all that is used has the form of its row.
-use Rattle.std.proofs.Common.{◌≡◌, ℕ, ◌<◌, ◌≤◌, ◌⊎◌, inl, inr, Bool, true, false, ◌||◌, List, length, get_or, Option, Some, None, codes, Contains, refl, sym, ap, subst, arith}
+use Rattle.std.proofs.Common.{◌≡◌, ℕ, suc, ◌<◌, ◌≤◌, ◌⊎◌, inl, inr, Bool, true, false, ◌||◌, List, [], ◌∷◌, length, map, get_or, Option, Some, None, codes, Contains, refl, sym, ap, subst, arith}
 use Rattle.std.specs.List.{slice_get, All, Any}
 use Rattle.std.proofs.lemmas.List.{get_or_default}
 use Rattle.std.proofs.lemmas.Bool.Decides.{nat_tests}
+use Rattle.std.proofs.lemmas.List.Elements.{All-cons}
+use Rattle.std.specs.Option.{unwrap_or}
 use Rattle.p21_values.specs.declared.value.Value21.{Value21}
 use Rattle.p21_values.specs.declared.value.Instance.{Instance}
 use Rattle.ifc_instances.specs.declared.entity.Entity.TheVariants as entity
@@ -22,15 +24,14 @@ use Rattle.p21_values.specs.Values.{reference_of, items_of}
 use Rattle.p21_values.specs.InstanceLookup.{look}
 use Rattle.ifc_instances.specs.EntityLookup.{entity_at, is_a, is_keyword_of}
 use Rattle.ifc_schema.specs.BodyRepresentations.{applies, is_body}
-use Rattle.ifc_schema.specs.Flaws.{LeafFlaw, ShapeFlaw, InstanceFlaw, bad_unless, target_flaw, wanted_flaw, reference_flaw}
+use Rattle.ifc_schema.specs.Flaws.{LeafFlaw, ListFlaw, ShapeFlaw, InstanceFlaw, bad_unless, target_flaw, wanted_flaw, reference_flaw}
 use Rattle.ifc_schema.specs.Used.{Used, IsMapped, LeadsTo, RefersTo, StandsIn}
-use Rattle.p21_values.specs.Attributes.{listed}
-use Rattle.faceset.specs.FaceSets.{is_polygonal, is_set, outline}
+use Rattle.p21_values.specs.Attributes.{listed, items_in}
+use Rattle.faceset.specs.FaceSets.{is_polygonal, is_set, is_face, outline}
 use Rattle.ifc_elements.specs.Items.{is_mapped_item, is_item}
-use Rattle.model_build.specs.Faces.{is_face}
 use Rattle.model_build.proofs.OneKeyword.{entity_there, is_representation}
 use Rattle.model_build.proofs.AttributesFormed.{Shaped, formed_there, At, in_row, attribute_flaw, must_at, at_more, Refers, referred_any, ListOf, list_there, list_more, follows}
-use Rattle.model_build.proofs.UsedFormed.{NamesUsed, used_must, listed_there, points_used}
+use Rattle.model_build.proofs.UsedFormed.{NamesUsed, used_must, listed_there, listed_all, points_used}
 
 -- Keywords.
 
@@ -41,6 +42,10 @@ is_polygonal_set i h = entity_there entity.PolygonalFaceSet (codes "IFCPOLYGONAL
 is_plain_face : (i : Instance) → is_a entity.Face i ≡ true → entity_at i ≡ Some entity.Face
 unfolding entity_of is_of
 is_plain_face i h = entity_there entity.Face (codes "IFCINDEXEDPOLYGONALFACE") i refl refl h
+
+is_voided_face : (i : Instance) → is_a entity.FaceWithVoids i ≡ true → entity_at i ≡ Some entity.FaceWithVoids
+unfolding entity_of is_of
+is_voided_face i h = entity_there entity.FaceWithVoids (codes "IFCINDEXEDPOLYGONALFACEWITHVOIDS") i refl refl h
 
 is_mapped : (i : Instance) → is_mapped_item i ≡ true → entity_at i ≡ Some entity.MappedItem
 unfolding entity_of is_of
@@ -191,6 +196,49 @@ corners_some world id i shaped u e is =
     listed_least i 0 3 (λ x. LeafFlaw world l x None)
     (at_more i 0 (λ v. ShapeFlaw world l s v None) (ListOf (AtLeast 3) (λ x. LeafFlaw world l x None)) (list_there (AtLeast 3) (LeafFlaw world l))
     (must_at world f.mapped i 0 Always s l refl (attribute_flaw world f.mapped i (attribute 0 Always Must s l) f.formed c)))
+
+-- .. also one with voids
+pub voided_some : (world : List Instance) (id : ℕ) (i : Instance) → Shaped world → Used world id → look world id ≡ Some i → is_a entity.FaceWithVoids i ≡ true → 3 ≤ length (outline i)
+unfolding row_of
+voided_some world id i shaped u e is =
+    let f = formed_there world id i (shaped id u) e in
+    let s = shape.List (AtLeast 3) in
+    let l = leaf.Whole in
+    let c : Contains (row_at i) (attribute 0 Always Must s l) = in_row entity.FaceWithVoids i (attribute 0 Always Must s l) (is_voided_face i is) (0, omega arith, refl) in
+    listed_least i 0 3 (λ x. LeafFlaw world l x None)
+    (at_more i 0 (λ v. ShapeFlaw world l s v None) (ListOf (AtLeast 3) (λ x. LeafFlaw world l x None)) (list_there (AtLeast 3) (LeafFlaw world l))
+    (must_at world f.mapped i 0 Always s l refl (attribute_flaw world f.mapped i (attribute 0 Always Must s l) f.formed c)))
+
+-- a value is a list of three or more
+abbrev Rings : List Instance → Value21 → Type 0
+Rings world = ListOf (AtLeast 3) (λ x. LeafFlaw world leaf.Whole x None)
+
+ring_long : (world : List Instance) (v : Value21) → Rings world v → 2 < length (items_in v)
+ring_long world v r =
+    let e : items_in v ≡ r.values = ap (λ o. unwrap_or o []) r.items in
+    let n = ap length e in
+    let m = r.many in
+    grind (arith, nat_tests)
+
+-- each of its inner loops is such a list
+rings_there : (world : List Instance) (id : ℕ) (i : Instance) → Shaped world → Used world id → look world id ≡ Some i → is_a entity.FaceWithVoids i ≡ true → At i 1 (ListOf (AtLeast 1) (Rings world))
+unfolding row_of
+rings_there world id i shaped u e is =
+    let f = formed_there world id i (shaped id u) e in
+    let s = shape.Table (AtLeast 1) (AtLeast 3) in
+    let l = leaf.Whole in
+    let c : Contains (row_at i) (attribute 1 Always Must s l) = in_row entity.FaceWithVoids i (attribute 1 Always Must s l) (is_voided_face i is) (1, omega arith, refl) in
+    at_more i 1 (λ v. ShapeFlaw world l s v None) (ListOf (AtLeast 1) (Rings world))
+    (λ v h. list_more (AtLeast 1) (λ x. ListFlaw (AtLeast 3) (LeafFlaw world l) x None) (Rings world) (list_there (AtLeast 3) (LeafFlaw world l)) v (list_there (AtLeast 1) (ListFlaw (AtLeast 3) (LeafFlaw world l)) v h))
+    (must_at world f.mapped i 1 Always s l refl (attribute_flaw world f.mapped i (attribute 1 Always Must s l) f.formed c))
+
+pub rings_some : (world : List Instance) (id : ℕ) (i : Instance) → Shaped world → Used world id → look world id ≡ Some i → is_a entity.FaceWithVoids i ≡ true → All (λ (loop : List Value21). 2 < length loop) (map items_in (listed i 1))
+rings_some world id i shaped u e is =
+    all_mapped (listed i 1) (λ k d lt. ring_long world (get_or (listed i 1) k d) (listed_all i 1 (AtLeast 1) (Rings world) (rings_there world id i shaped u e is) k d lt))
+  where
+    all_mapped : (vs : List Value21) → All (λ v. 2 < length (items_in v)) vs → All (λ (loop : List Value21). 2 < length loop) (map items_in vs)
+    all_mapped [] all = λ k d lt. absurd (omega (arith, lt))
+    all_mapped (v ∷ vs) all = All-cons (λ (loop : List Value21). 2 < length loop) (items_in v) (map items_in vs) (all 0 v (omega arith)) (all_mapped vs (λ k d lt. all (suc k) d (omega (arith, lt))))
 
 -- Mapped items.
 

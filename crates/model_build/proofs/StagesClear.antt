@@ -7,8 +7,8 @@ use Rattle.ifc_schema.specs.Surveys.{Lists, Surveyed}
 use Rattle.ifc_units.specs.declared.scale.Scale.{Scale}
 use Rattle.model_build.specs.StageFaults.{IsClear, LeastFault}
 use Rattle.model_build.specs.Unsupported.{IsUnsupported}
-use Rattle.model_build.specs.Stages.{FormStage, TreeStage, ObliqueStage, ItemStage, VoidStage, IndexStage, LengthStage, CornersStage}
-use Rattle.model_build.specs.FaultyInstances.{NoneOf, IsVoided, IsBadSet, IsOblique}
+use Rattle.model_build.specs.Stages.{FormStage, TreeStage, ObliqueStage, ItemStage, IndexStage, LengthStage, CornersStage}
+use Rattle.model_build.specs.FaultyInstances.{NoneOf, IsBadSet, IsOblique}
 use Rattle.model_build.specs.inner.Outcomes.{HaveFewCorners, AreMeasured}
 use Rattle.ifc_schema.specs.declared.outcome.Survey.{Survey}
 use Rattle.ifc_schema.proofs.Apart.{used_apart}
@@ -21,9 +21,6 @@ square_clear world used ls none fault h = none h.id (ls.all h.id h.of) h.here.1
 
 pub items_clear : (world : List Instance) (scale : Scale) (mode : Mode) → ((id : ℕ) → IsUnsupported world scale mode id → ⊥) → IsClear (ItemStage world mode scale)
 items_clear world scale mode none fault h = none h.id h.of
-
-pub voids_clear : (world : List Instance) (used : List ℕ) → Lists (Used world) used → NoneOf used (IsVoided world) → IsClear (VoidStage world)
-voids_clear world used ls none fault h = none h.id (ls.all h.id h.of.0) h.of.1
 
 pub indexes_clear : (world : List Instance) (used : List ℕ) → Lists (Used world) used → NoneOf used (IsBadSet world) → IsClear (IndexStage world)
 indexes_clear world used ls none fault h = none h.id (ls.all h.id h.of) h.here.1

@@ -1,10 +1,13 @@
 -- Faces of sets that can't be cut: by the points of a table, and by those that the sets spell.
-use Rattle.std.proofs.Common.{◌≡◌, ℕ, ◌<◌, true, List, Option, Some, None, Result, Ok, Err, option_and_then, refl, sym, ap, ◌∙◌, subst}
+use Rattle.std.proofs.Common.{◌≡◌, ℕ, ◌<◌, inl, inr, Bool, true, false, if◌then◌else◌, Any, List, Option, Some, None, Result, Ok, Err, option_and_then, refl, sym, ap, ◌∙◌, subst}
+use Rattle.std.specs.Bool.{MatchBool}
 use Rattle.std.specs.Option.{MatchOption}
 use Rattle.std.specs.Result.{IfOk}
 use Rattle.bim_model.specs.declared.geometry.Point.{Point}
 use Rattle.bim_model.specs.declared.upload.Mode.{Mode}
+use Rattle.bim_model.specs.declared.upload.UploadFault.{UploadFault}
 use Rattle.bim_model.specs.declared.upload.UploadFault.TheVariants as faults
+use Rattle.p21_values.specs.declared.value.Value21.{Value21}
 use Rattle.p21_values.specs.declared.value.Instance.{Instance}
 use Rattle.ifc_instances.specs.declared.entity.Entity.TheVariants as entity
 use Rattle.p21_values.specs.InstanceLookup.{look}
@@ -14,15 +17,15 @@ use Rattle.ifc_schema.specs.Surveys.{Lists}
 use Rattle.ifc_units.specs.declared.scale.Scale.{Scale}
 use Rattle.ifc_units.specs.Lengths.{ArePoints}
 use Rattle.ifc_units.proofs.PointFacts.{one_points}
-use Rattle.faceset.specs.FaceSets.{is_set, listed_in, points_of, HasStuck}
+use Rattle.faceset.specs.FaceSets.{is_set, listed_in, points_of, IsStuck, IsUnbridged, HasStuck, HasUnbridged}
 use Rattle.p21_values.specs.Attributes.{listed, reference_at}
 use Rattle.ifc_elements.specs.PointTables.{ListsPoints}
 use Rattle.ifc_elements.specs.Surfaces.{SetPoints}
-use Rattle.model_build.specs.Faces.{IsStuckFace}
+use Rattle.model_build.specs.Faces.{IsFaceOfUsed, IsStuckFace}
 use Rattle.ifc_instances.specs.inner.Least.{IsLeast, LeastOf}
 use Rattle.model_build.specs.FaultyInstances.{ShownBy}
-use Rattle.model_build.specs.Stages.{StuckStage}
-use Rattle.model_build.specs.inner.Outcomes.{ShowsStuckSet}
+use Rattle.model_build.specs.Stages.{StuckFault, StuckStage}
+use Rattle.model_build.specs.inner.Outcomes.{ShowsFaceSet, ShowsStuckSet, ShowsApartSet}
 use Rattle.model_build.proofs.AttributesFormed.{Shaped}
 use Rattle.model_build.proofs.UsedFormed.{named_at}
 use Rattle.model_build.proofs.SetsFormed.{set_points}
@@ -97,8 +100,11 @@ ok_by P Q (Err e) f h = h
 
 -- What the sets that are used show.
 
-shown_stuck : (world : List Instance) (scale : Scale) (mode : Mode) (used : List ℕ) → Lists (Used world) used → (id : ℕ) → ShownBy (ShowsStuckSet world scale mode) used id → IsStuckFace world scale mode id
-shown_stuck world scale mode used ls id h =
+abbrev OfFace : Type 1
+OfFace = Option (List Value21) → List Point → Instance → Type 0
+
+shown_of : (Is : OfFace) (world : List Instance) (scale : Scale) (mode : Mode) (used : List ℕ) → Lists (Used world) used → (id : ℕ) → ShownBy (ShowsFaceSet Is world scale mode) used id → IsFaceOfUsed Is world scale mode id
+shown_of Is world scale mode used ls id h =
     let f = h.2 in
     let s = f.instance in
     let g = f.holds in (
@@ -107,8 +113,8 @@ shown_stuck world scale mode used ls id h =
       record { instance = s; found = f.found; holds = (g.3, from_list world scale mode s g.1 g.3 g.2 g.4, g.5) },
     )
 
-stuck_shown : (world : List Instance) (scale : Scale) (mode : Mode) (used : List ℕ) → Shaped world → Lists (Used world) used → (id : ℕ) → IsStuckFace world scale mode id → ShownBy (ShowsStuckSet world scale mode) used id
-stuck_shown world scale mode used shaped ls id h =
+of_shown : (Is : OfFace) (world : List Instance) (scale : Scale) (mode : Mode) (used : List ℕ) → Shaped world → Lists (Used world) used → (id : ℕ) → IsFaceOfUsed Is world scale mode id → ShownBy (ShowsFaceSet Is world scale mode) used id
+of_shown Is world scale mode used shaped ls id h =
     let u = h.1.0 in
     let f = h.2 in
     let s = f.instance in
@@ -121,15 +127,74 @@ stuck_shown world scale mode used shaped ls id h =
       record { instance = s; found = f.found; holds = (is, n.0, n.1, f.holds.0, l, f.holds.2) },
     )
 
-pub stuck_stage : (world : List Instance) (scale : Scale) (mode : Mode) (used : List ℕ) (id : ℕ) → Shaped world → Lists (Used world) used → IsLeast (ShownBy (ShowsStuckSet world scale mode) used) id
-    → StuckStage world mode scale (faults.FaceStuck id)
-stuck_stage world scale mode used id shaped ls h = record {
+any_shown : (Shown : ℕ → ℕ → Type 0) (froms : List ℕ) (id : ℕ) → Any (λ from. Shown from id) froms → ShownBy Shown froms id
+any_shown Shown froms id any = (any.1, (any.0, any.2, any.3), any.4)
+
+shown_any : (Shown : ℕ → ℕ → Type 0) (froms : List ℕ) (id : ℕ) → ShownBy Shown froms id → Any (λ from. Shown from id) froms
+shown_any Shown froms id h = (h.1.0, h.0, h.1.1, h.1.2, h.2)
+
+-- the fault of a face that can't be cut, by whether a set shows that its loops can't be joined
+pub stuck_fault : (world : List Instance) (scale : Scale) (mode : Mode) (used : List ℕ) (id : ℕ) (apart : Bool) → Shaped world → Lists (Used world) used
+    → MatchBool apart (Any (λ set. ShowsApartSet world scale mode set id) used) (Any (λ set. ShowsApartSet world scale mode set id) used → ⊥)
+    → StuckFault world mode scale id (if apart then faults.VoidedFace id else faults.FaceStuck id)
+stuck_fault world scale mode used id true shaped ls h =
+    inl (shown_of IsUnbridged world scale mode used ls id (any_shown (ShowsApartSet world scale mode) used id h), refl)
+stuck_fault world scale mode used id false shaped ls h =
+    inr (λ u. h (shown_any (ShowsApartSet world scale mode) used id (of_shown IsUnbridged world scale mode used shaped ls id u)), refl)
+
+pub stuck_stage : (world : List Instance) (scale : Scale) (mode : Mode) (used : List ℕ) (id : ℕ) (fault : UploadFault) → Shaped world → Lists (Used world) used → IsLeast (ShownBy (ShowsStuckSet world scale mode) used) id
+    → StuckFault world mode scale id fault → StuckStage world mode scale fault
+stuck_stage world scale mode used id fault shaped ls h told = record {
   id = id;
-  of = shown_stuck world scale mode used ls id h.here;
-  here = refl;
-  lower = λ k low of other g. h.lower k low (stuck_shown world scale mode used shaped ls k of);
+  of = shown_of IsStuck world scale mode used ls id h.here;
+  here = told;
+  lower = λ k low of other g. h.lower k low (of_shown IsStuck world scale mode used shaped ls k of);
 }
 
 pub none_stuck : (world : List Instance) (scale : Scale) (mode : Mode) (used : List ℕ) → Shaped world → Lists (Used world) used → ((id : ℕ) → ShownBy (ShowsStuckSet world scale mode) used id → ⊥)
     → (id : ℕ) → IsStuckFace world scale mode id → ⊥
-none_stuck world scale mode used shaped ls none id h = none id (stuck_shown world scale mode used shaped ls id h)
+none_stuck world scale mode used shaped ls none id h = none id (of_shown IsStuck world scale mode used shaped ls id h)
+
+-- Whether one set shows it.
+
+apart_in : (world : List Instance) (scale : Scale) (mode : Mode) (id list : ℕ) (s : Instance) (points : List Point) (face : ℕ) → Some s ≡ look world id → Some list ≡ reference_at s 0
+    → ListsPoints world scale mode list points → ShowsApartSet world scale mode id face → HasUnbridged world points s face
+apart_in world scale mode id list s points face e refers l h =
+    let g = h.holds in
+    let same : h.instance ≡ s = (let f = h.found in cc) in
+    let to : reference_at h.instance 0 ≡ Some list = ap (λ (i : Instance). reference_at i 0) same ∙ sym refers in
+    let list_same : g.1 ≡ list = (let r = g.2 in cc) in
+    let points_same = lists_same world scale mode list g.3 points (subst (λ (n : ℕ). ListsPoints world scale mode n g.3) list_same g.4) l in
+    subst (λ (i : Instance). HasUnbridged world points i face) same (subst (λ (ps : List Point). HasUnbridged world ps h.instance face) points_same g.5)
+
+pub apart_told : {E : Type 0} (world : List Instance) (scale : Scale) (mode : Mode) (id list : ℕ) (s : Instance) (points : List Point) (face : ℕ) (r : Result Bool E) → Some s ≡ look world id → is_set s ≡ true → Some list ≡ reference_at s 0
+    → ListsPoints world scale mode list points → IfOk r (λ apart. MatchBool apart (HasUnbridged world points s face) (HasUnbridged world points s face → ⊥))
+    → IfOk r (λ apart. MatchBool apart (ShowsApartSet world scale mode id face) (ShowsApartSet world scale mode id face → ⊥))
+apart_told world scale mode id list s points face (Err error) e is refers l h = h
+apart_told world scale mode id list s points face (Ok true) e is refers l h = record { instance = s; found = sym e; holds = (is, list, sym refers, points, l, h) }
+apart_told world scale mode id list s points face (Ok false) e is refers l h = λ shows. h (apart_in world scale mode id list s points face e refers l shows)
+
+-- an instance that is there, but no such set, shows none
+pub apart_nowhere : (world : List Instance) (scale : Scale) (mode : Mode) (id face : ℕ) → None ≡ look world id → ShowsApartSet world scale mode id face → ⊥
+apart_nowhere world scale mode id face e h = let f = h.found in cc
+
+pub apart_no_set : (world : List Instance) (scale : Scale) (mode : Mode) (id face : ℕ) (s : Instance) → Some s ≡ look world id → is_set s ≡ false → ShowsApartSet world scale mode id face → ⊥
+apart_no_set world scale mode id face s e other h =
+    let same : h.instance ≡ s = (let f = h.found in cc) in
+    let is : is_set s ≡ true = subst (λ (i : Instance). is_set i ≡ true) same h.holds.0 in
+    let clash : true ≡ false = sym is ∙ other in
+    cc
+
+pub apart_no_list : (world : List Instance) (scale : Scale) (mode : Mode) (id face : ℕ) (s : Instance) → Some s ≡ look world id → None ≡ reference_at s 0 → ShowsApartSet world scale mode id face → ⊥
+apart_no_list world scale mode id face s e none h =
+    let same : h.instance ≡ s = (let f = h.found in cc) in
+    let to : reference_at s 0 ≡ Some h.holds.1 = subst (λ (i : Instance). reference_at i 0 ≡ Some h.holds.1) same h.holds.2 in
+    cc
+
+pub apart_no_points : (world : List Instance) (scale : Scale) (mode : Mode) (id face list : ℕ) (s : Instance) → Some s ≡ look world id → Some list ≡ reference_at s 0
+    → ((points : List Point) → ListsPoints world scale mode list points → ⊥) → ShowsApartSet world scale mode id face → ⊥
+apart_no_points world scale mode id face list s e refers none h =
+    let same : h.instance ≡ s = (let f = h.found in cc) in
+    let to : reference_at s 0 ≡ Some h.holds.1 = subst (λ (i : Instance). reference_at i 0 ≡ Some h.holds.1) same h.holds.2 in
+    let list_same : h.holds.1 ≡ list = cc in
+    none h.holds.3 (subst (λ (n : ℕ). ListsPoints world scale mode n h.holds.3) list_same h.holds.4)

@@ -49,7 +49,7 @@ use Rattle.model_build.specs.Order.{Rise}
 use Rattle.model_build.specs.Profile.{IsModelOf}
 use Rattle.model_build.specs.Faces.{IsStuckFace, HasManyCorners}
 use Rattle.model_build.specs.Unsupported.{ListsOther, ListsNested, HasNoTarget, HasGridNumber, IsAwayValue, IsAway, IsTurned, IsShifted, IsUnsupported, plain_axes}
-use Rattle.model_build.specs.Stages.{FormStage, LoopStage, ObliqueStage, ItemStage, VoidStage, IndexStage, LengthStage, CornersStage, StuckStage, ReachStage, stages, FileFault}
+use Rattle.model_build.specs.Stages.{FormStage, LoopStage, ObliqueStage, ItemStage, IndexStage, LengthStage, CornersStage, StuckStage, ReachStage, stages, FileFault}
 use Rattle.model_build.proofs.FirstOfStages.{AllClear, all_clear, unit_clear}
 use Rattle.model_build.proofs.StagesClear.{tree_clear, items_clear}
 use Rattle.model_build.proofs.RepeatedGuids.{repeats_clear}
@@ -61,7 +61,7 @@ use Rattle.placement.proofs.OneFrame.{same_axes}
 use Rattle.model_build.proofs.OneKeyword.{both, held_is_a}
 use Rattle.model_build.proofs.UsedFormed.{named_at}
 use Rattle.model_build.specs.Triangles.{most_triangles}
-use Rattle.model_build.proofs.SetsFormed.{either, map_used}
+use Rattle.model_build.proofs.SetsFormed.{map_used}
 
 -- all that is used is clean
 abbrev AllClean : List Instance → Scale → Mode → Type 0
@@ -158,13 +158,6 @@ axes_clear world scale mode c fault h = not_oblique world scale mode h.id (c h.i
 
 -- Faces, sets and lengths.
 
-voids_none : (world : List Instance) (scale : Scale) (mode : Mode) → AllClean world scale mode → IsClear (VoidStage world)
-voids_none world scale mode c fault h =
-    let f = h.of.1 in
-    let s = (clean_of world scale mode h.id f.instance (c h.id h.of.0) f.found).solid in
-    let t = f.holds in
-    cc
-
 indexes_none : (world : List Instance) (scale : Scale) (mode : Mode) → AllClean world scale mode → IsClear (IndexStage world)
 indexes_none world scale mode c fault h =
     let f = h.here.1 in
@@ -176,10 +169,7 @@ lengths_none world scale mode c fault h =
     (clean_of world scale mode h.id f.instance (c h.id h.of) f.found).measured h.here.0 f.holds
 
 few_corners : (world : List Instance) (scale : Scale) (mode : Mode) (m : Bool) (id : ℕ) (i : Instance) → IsClean world scale mode m id i → HasManyCorners i → ⊥
-few_corners world scale mode m id i c h = elim (either (is_a entity.Face i) (is_a entity.FaceWithVoids i) h.0) [
-  | inl f ↦ (let l = c.few f in let n = h.1 in omega (arith, l, n))
-  | inr v ↦ (let s = c.solid in cc)
-]
+few_corners world scale mode m id i c h = let l = c.few h.0 in let n = h.1 in omega (arith, l, n)
 
 corners_none : (world : List Instance) (scale : Scale) (mode : Mode) → AllClean world scale mode → IsClear (CornersStage world)
 corners_none world scale mode c fault h =
@@ -325,10 +315,10 @@ pub walk_clear : (world : List Instance) (mode : Mode) (elements : List Element)
 walk_clear world mode elements w =
     let scale = w.scale in
     let c = w.clean in
-    let last : AllClear (drop 12 (stages world mode)) = (triangles_clear world w.ids w.lists w.few, (unit_clear world (ReachStage world mode) scale w.unit (reach_clear world scale mode w.ids elements w.lists w.each), tt)) in
-    let faces : AllClear (drop 10 (stages world mode)) = (corners_none world scale mode c, (unit_clear world (StuckStage world mode) scale w.unit (stuck_clear world scale mode (unstuck world scale mode c)), last)) in
-    let sets : AllClear (drop 8 (stages world mode)) = (indexes_none world scale mode c, (unit_clear world (LengthStage world mode) scale w.unit (lengths_none world scale mode c), faces)) in
-    let items : AllClear (drop 6 (stages world mode)) = (unit_clear world (ItemStage world mode) scale w.unit (items_clear world scale mode (supported world scale mode c)), (voids_none world scale mode c, sets)) in
+    let last : AllClear (drop 11 (stages world mode)) = (triangles_clear world w.ids w.lists w.few, (unit_clear world (ReachStage world mode) scale w.unit (reach_clear world scale mode w.ids elements w.lists w.each), tt)) in
+    let faces : AllClear (drop 9 (stages world mode)) = (corners_none world scale mode c, (unit_clear world (StuckStage world mode) scale w.unit (stuck_clear world scale mode (unstuck world scale mode c)), last)) in
+    let sets : AllClear (drop 7 (stages world mode)) = (indexes_none world scale mode c, (unit_clear world (LengthStage world mode) scale w.unit (lengths_none world scale mode c), faces)) in
+    let items : AllClear (drop 6 (stages world mode)) = (unit_clear world (ItemStage world mode) scale w.unit (items_clear world scale mode (supported world scale mode c)), sets) in
     let axes : AllClear (drop 4 (stages world mode)) = (loops_clear world scale mode w.ids elements w.lists w.each, (axes_clear world scale mode c, items)) in
     let guids : AllClear (drop 3 (stages world mode)) = (repeats_clear world (IsModelElement world) w.ids w.lists (none_repeat world scale mode w.ids elements w.lists.rises w.each w.differ), axes) in
     all_clear (stages world mode) (forms_clear world scale mode c, ((λ fault u. u.none scale w.unit), (tree_clear world w.tree, guids)))

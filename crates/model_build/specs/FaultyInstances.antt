@@ -1,7 +1,7 @@
 -- The least of numbers of which something holds.
 use Rattle.std.specs.Prelude.{◌≡◌, ℕ, ◌<◌, ◌⊎◌, true, List, Contains}
 use Rattle.p21_values.specs.declared.value.Instance.{Instance}
-use Rattle.ifc_instances.specs.declared.entity.Entity.TheVariants.{AxisPlacement, Operator, FaceWithVoids}
+use Rattle.ifc_instances.specs.declared.entity.Entity.TheVariants.{AxisPlacement, Operator}
 use Rattle.ifc_instances.specs.EntityLookup.{is_a}
 use Rattle.faceset.specs.FaceSets.{is_set, HasBadIndex}
 use Rattle.placement.specs.declared.axes.Axes.{Axes}
@@ -30,10 +30,6 @@ ShownBy Shown froms id = (from : ℕ) × Contains froms from × Shown from id
 -- the instance of that number is a set, and one of its indexes counts nothing
 abbrev pub IsBadSet : List Instance → ℕ → Type 0
 IsBadSet world id = Finds world id (λ i. (is_set i ≡ true) × HasBadIndex world i)
-
--- the instance of that number is a face with voids
-abbrev pub IsVoided : List Instance → ℕ → Type 0
-IsVoided world id = Finds world id (λ i. is_a FaceWithVoids i ≡ true)
 
 -- the number of an axis placement
 abbrev pub IsAxisPlacement : List Instance → ℕ → Type 0

@@ -1,12 +1,11 @@
 -- The stages of the faults that a file's instances may have, and their order.
-use Rattle.std.specs.Prelude.{◌≡◌, ℕ, ◌<◌, true, List, [], ◌∷◌}
+use Rattle.std.specs.Prelude.{◌≡◌, ℕ, ◌<◌, ◌⊎◌, true, List, [], ◌∷◌}
 use Rattle.bim_model.specs.declared.upload.Mode.{Mode}
 use Rattle.bim_model.specs.declared.upload.Many.TheVariants as many
 use Rattle.bim_model.specs.declared.upload.UploadFault.{UploadFault}
 use Rattle.bim_model.specs.declared.upload.UploadFault.TheVariants as faults
 use Rattle.p21_values.specs.declared.value.Instance.{Instance}
 use Rattle.ifc_instances.specs.declared.entity.Entity.{Entity}
-use Rattle.ifc_instances.specs.declared.entity.Entity.TheVariants.{FaceWithVoids}
 use Rattle.ifc_instances.specs.EntityLookup.{is_a}
 use Rattle.ifc_schema.specs.Used.{Used}
 use Rattle.ifc_schema.specs.Surveys.{SurveyFault, IsModelElement}
@@ -22,7 +21,7 @@ use Rattle.model_build.specs.NamedPlacements.{IsNamed}
 use Rattle.model_build.specs.FaultyInstances.{IsBadSet, IsOblique}
 use Rattle.model_build.specs.Unsupported.{IsUnsupported}
 use Rattle.model_build.specs.LengthFaults.{LengthFault}
-use Rattle.model_build.specs.Faces.{HasManyCorners, IsStuckFace}
+use Rattle.model_build.specs.Faces.{HasManyCorners, IsStuckFace, IsUnbridgedFace}
 use Rattle.model_build.specs.Triangles.{HasTriangles, most_triangles}
 
 -- a reference that leads nowhere, or an attribute without the form of its row, of the least instance that is used and has one
@@ -62,10 +61,6 @@ ItemStage world mode scale = LeastFault (IsUnsupported world scale mode)
 abbrev pub IsUsed : Entity → List Instance → ℕ → Type 0
 IsUsed entity world id = Used world id × Finds world id (λ i. is_a entity i ≡ true)
 
--- a used face with voids
-abbrev pub VoidStage : List Instance → Stage
-VoidStage world = LeastFault (IsUsed FaceWithVoids world) (λ id fault. fault ≡ faults.VoidedFace id)
-
 -- a used set with a bad index
 abbrev pub IndexStage : List Instance → Stage
 IndexStage world = LeastFault (Used world) (λ id fault. (fault ≡ faults.BadIndex id) × IsBadSet world id)
@@ -74,15 +69,20 @@ IndexStage world = LeastFault (Used world) (λ id fault. (fault ≡ faults.BadIn
 abbrev pub LengthStage : List Instance → Mode → Scale → Stage
 LengthStage world mode scale = LeastFault (Used world) (LengthFault world scale mode)
 
--- a face that is used has more than a thousand corners
+-- a face that is used has more than a thousand corners in all its loops
 abbrev pub CornersStage : List Instance → Stage
 CornersStage world fault = (fault ≡ faults.TooMany many.Corners) × (id : ℕ) × Used world id
     × Finds world id HasManyCorners
 
+-- the fault of a face that can't be cut: with the points of a set its loops can't be joined, or else they can with all
+abbrev pub StuckFault : List Instance → Mode → Scale → ℕ → UploadFault → Type 0
+StuckFault world mode scale id fault =
+    (IsUnbridgedFace world scale mode id × (fault ≡ faults.VoidedFace id))
+    ⊎ ((IsUnbridgedFace world scale mode id → ⊥) × (fault ≡ faults.FaceStuck id))
+
 -- a face that can't be cut
 abbrev pub StuckStage : List Instance → Mode → Scale → Stage
-StuckStage world mode scale = LeastFault (IsStuckFace world scale mode)
-    (λ id fault. fault ≡ faults.FaceStuck id)
+StuckStage world mode scale = LeastFault (IsStuckFace world scale mode) (StuckFault world mode scale)
 
 -- there are too many triangles
 abbrev pub TrianglesStage : List Instance → Stage
@@ -118,15 +118,13 @@ stages world mode =
     ObliqueStage world ∷
     -- U13: an item that isn't read, or is mapped in a way that isn't
     InUnit world (ItemStage world mode) ∷
-    -- U16: a face with voids
-    VoidStage world ∷
     -- U14: a set of which an index counts nothing
     IndexStage world ∷
     -- U9, U10: a point or a list of points with a number between two of the grid, or too far
     InUnit world (LengthStage world mode) ∷
     -- U19: a face with too many corners
     CornersStage world ∷
-    -- U15: a face that can't be cut
+    -- U16, U15: a face whose loops can't be joined, or whose polygon can't be cut
     InUnit world (StuckStage world mode) ∷
     -- U19: too many triangles
     TrianglesStage world ∷

@@ -3,24 +3,24 @@ ghost use Rattle.std.specs.Prelude.{ℕ, IfOk, IfErr, MatchOption, sum_by, ◌�
 ghost use Rattle.ifc_schema.specs.Surveys.{Surveyed, used_ids, element_ids};
 ghost use Rattle.model_build.specs.StageFaults.{LeastFault};
 ghost use Rattle.model_build.specs.DuplicateGuids.{GuidFault, NoneRepeats};
-ghost use Rattle.model_build.specs.Stages.{TwiceStage, LoopStage, ObliqueStage, ItemStage, VoidStage, IndexStage, CornersStage, StuckStage, TrianglesStage};
+ghost use Rattle.model_build.specs.Stages.{TwiceStage, LoopStage, ObliqueStage, ItemStage, IndexStage, CornersStage, StuckStage, TrianglesStage};
 ghost use Rattle.ifc_elements.specs.Items.{count_of};
 ghost use Rattle.model_build.specs.Triangles.{most_triangles};
 ghost use Rattle.model_build.specs.Unsupported.{IsUnsupported};
 ghost use Rattle.model_build.specs.Faces.{IsStuckFace};
-ghost use Rattle.model_build.specs.FaultyInstances.{NoneOf, IsVoided, IsBadSet, IsOblique};
+ghost use Rattle.model_build.specs.FaultyInstances.{NoneOf, IsBadSet, IsOblique};
 ghost use Rattle.model_build.specs.NamedPlacements.{IsNamed};
 ghost use Rattle.ifc_elements.specs.PointTables.{IsTable};
 ghost use Rattle.ifc_elements.specs.Shapes.{AreShapes};
 ghost use Rattle.model_build.specs.inner.Outcomes.{IsErrorOf, HasChains, HaveFewCorners};
 
 use crate::counts::count_triangles;
+use crate::full_faces::some_has_many_corners;
 use crate::guids::first_repeated;
 use crate::least::{first_bad_index, first_oblique};
 use crate::mapping::least_mapping;
 use crate::named_placements::placements;
-use crate::uncut_faces::first_stuck;
-use crate::unread_faces::{first_voided, some_has_many_corners};
+use crate::uncut_faces::{first_stuck, some_unbridged};
 use crate::unsupported::{least_in_bodies, least_in_mapped, lesser};
 use bim_model::{BuildError, Items, Many, Mode, Point, UploadFault};
 use ifc_elements::Shapes;
@@ -88,18 +88,6 @@ pub fn item_fault(
     }
 }
 
-/// The fault of a face with voids.
-pub fn void_fault(exchange: &Exchange, survey: &Survey) -> Option<UploadFault>
-    requires { Surveyed exchange.now survey.now }
-    ensures { MatchOption result (NoneOf (used_ids survey.now) (IsVoided exchange.now))
-        (VoidStage exchange.now) }
-{
-    match first_voided(exchange, survey.used()) {
-        Some(id) => Some(UploadFault::VoidedFace { id }),
-        None => None,
-    }
-}
-
 /// The fault of a set with an index that counts nothing.
 pub fn index_fault(
     alloc: Global,
@@ -116,7 +104,7 @@ pub fn index_fault(
     }
 }
 
-/// The fault of a face with more than a thousand corners.
+/// The fault of a face whose loops have more than a thousand corners together.
 pub fn corners_fault(exchange: &Exchange, survey: &Survey) -> Option<UploadFault>
     requires { Surveyed exchange.now survey.now }
     ensures { MatchOption result (HaveFewCorners exchange.now (used_ids survey.now))
@@ -131,7 +119,7 @@ pub fn corners_fault(exchange: &Exchange, survey: &Survey) -> Option<UploadFault
     }
 }
 
-/// The fault of a face that can't be cut.
+/// The fault of a face that can't be cut, by whether its loops can be joined.
 pub fn stuck_fault(
     alloc: Global,
     exchange: &Exchange,
@@ -145,10 +133,16 @@ pub fn stuck_fault(
     ensures { IfOk result (λ found. MatchOption found ((id : ℕ) → IsStuckFace exchange.now scale mode id → ⊥)
         (StuckStage exchange.now mode scale)) }
 {
-    match first_stuck(alloc, exchange, table, survey.used(), scale, mode)? {
-        Some(id) => Ok(Some(UploadFault::FaceStuck { id })),
-        None => Ok(None),
-    }
+    let used = survey.used();
+    let Some(id) = first_stuck(alloc, exchange, table, used, scale, mode)? else {
+        return Ok(None);
+    };
+    let apart = some_unbridged(alloc, exchange, table, used, id, scale, mode)?;
+    Ok(Some(if apart {
+        UploadFault::VoidedFace { id }
+    } else {
+        UploadFault::FaceStuck { id }
+    }))
 }
 
 /// The fault of elements with more than a million triangles together.

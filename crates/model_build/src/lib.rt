@@ -4,6 +4,7 @@
 mod building;
 mod checks;
 mod counts;
+mod full_faces;
 mod guids;
 mod judged_file;
 mod laws;
@@ -14,7 +15,6 @@ mod named_placements;
 mod order;
 mod stages;
 mod uncut_faces;
-mod unread_faces;
 mod unsupported;
 
 pub use building::{build, build_owned};

@@ -13,7 +13,7 @@ ghost use Rattle.model_build.specs.Profile.{IsModelOf};
 
 use crate::checks::{
     chains_of, corners_fault, guid_fault, index_fault, item_fault, oblique_fault, stuck_fault,
-    triangles_fault, void_fault,
+    triangles_fault,
 };
 use crate::judged_file::File;
 use crate::length_faults::first_length_fault;
@@ -50,7 +50,7 @@ fn opened(alloc: Global, exchange: Exchange, mode: Mode) -> Result<File, BuildEr
     })
 }
 
-/// The checks of what the profile supports: axes, items, faces with voids, and indexes.
+/// The checks of what the profile supports: axes, items and indexes.
 fn check_support(alloc: Global, file: &File) -> Result<(), BuildError>
     requires { IsOpened file.now }
     ensures supported { IfOk result (λ done. IsSupported file.now) }
@@ -60,9 +60,6 @@ fn check_support(alloc: Global, file: &File) -> Result<(), BuildError>
         return Err(BuildError::Fault(fault));
     }
     if let Some(fault) = item_fault(&file.exchange, &file.survey, file.scale, file.mode) {
-        return Err(BuildError::Fault(fault));
-    }
-    if let Some(fault) = void_fault(&file.exchange, &file.survey) {
         return Err(BuildError::Fault(fault));
     }
     if let Some(fault) = index_fault(alloc, &file.exchange, &file.survey)? {

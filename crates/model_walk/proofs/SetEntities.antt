@@ -59,6 +59,11 @@ pub held_one : (e : Entity) (k : Option (List ℕ)) → is_keyword_of e k ≡ tr
 held_one e None h = h
 held_one e (Some keyword) h = ap (λ (b : Bool). b || false) h
 
-pub held_face : (k : Option (List ℕ)) → is_keyword_of entity.Face k ≡ true → holds targets.Faces k ≡ true
+pub held_face : (k : Option (List ℕ)) → (is_keyword_of entity.Face k || is_keyword_of entity.FaceWithVoids k) ≡ true → holds targets.Faces k ≡ true
 held_face None h = h
-held_face (Some keyword) h = ap (λ (b : Bool). b || (is_of entity.FaceWithVoids keyword || false)) h
+held_face (Some keyword) h = by_either (is_of entity.Face keyword) (is_of entity.FaceWithVoids keyword) h
+  where
+    by_either : (a b : Bool) → (a || b) ≡ true → (a || (b || false)) ≡ true
+    by_either true b h = refl
+    by_either false true h = refl
+    by_either false false h = h

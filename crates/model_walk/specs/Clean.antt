@@ -9,7 +9,7 @@ use Rattle.p21_values.specs.declared.value.Instance.{Instance}
 use Rattle.p21_values.specs.Values.{number_of, reference_of}
 use Rattle.p21_values.specs.InstanceLookup.{look}
 use Rattle.p21_values.specs.Attributes.{reference_at}
-use Rattle.ifc_instances.specs.declared.entity.Entity.TheVariants.{Representation, AxisPlacement, Operator, RepresentationMap, Point, Face, FaceWithVoids}
+use Rattle.ifc_instances.specs.declared.entity.Entity.TheVariants.{Representation, AxisPlacement, Operator, RepresentationMap, Point}
 use Rattle.ifc_instances.specs.EntityLookup.{is_a}
 use Rattle.ifc_schema.specs.BodyRepresentations.{is_body}
 use Rattle.ifc_schema.specs.Flaws.{InstanceFlaw}
@@ -23,7 +23,7 @@ use Rattle.placement.specs.declared.frame.Frame.{Frame}
 use Rattle.placement.specs.Directions.{HasAxes}
 use Rattle.placement.specs.Operators.{HasOperatorAxes}
 use Rattle.placement.specs.Placed.{AxisFrame}
-use Rattle.faceset.specs.FaceSets.{is_set, outline, most_corners, HasBadIndex}
+use Rattle.faceset.specs.FaceSets.{is_set, is_face, all_corners, most_corners, HasBadIndex}
 use Rattle.ifc_elements.specs.Finding.{Finds}
 use Rattle.ifc_elements.specs.Items.{spelled_items, is_item, is_mapped_item}
 use Rattle.ifc_elements.specs.Sound.{IsKept}
@@ -84,8 +84,7 @@ pub record ShowsNone (world : List Instance) (scale : Scale) (mode : Mode) (mapp
   pub carries : is_a Operator i ≡ true → (axes : Axes) × HasOperatorAxes world i.id axes
   pub operator : is_mapped_item i ≡ true → HasOperator world i
   pub origin : is_a RepresentationMap i ≡ true → HasPlainOrigin world scale mode i
-  pub solid : is_a FaceWithVoids i ≡ false
-  pub few : is_a Face i ≡ true → length (outline i) ≤ most_corners
+  pub few : is_face i ≡ true → length (all_corners i) ≤ most_corners
   pub point : is_a Point i ≡ true → (fault : GridFault) → InstanceRefused scale mode i fault → ⊥
 
 -- The instance of that number has the form of its row, and by its kind nothing of it is a fault. Whether it is mapped is given.
@@ -97,8 +96,7 @@ pub record IsClean (world : List Instance) (scale : Scale) (mode : Mode) (mapped
   pub carries : is_a Operator i ≡ true → (axes : Axes) × HasOperatorAxes world id axes
   pub operator : is_mapped_item i ≡ true → HasOperator world i
   pub origin : is_a RepresentationMap i ≡ true → HasPlainOrigin world scale mode i
-  pub solid : is_a FaceWithVoids i ≡ false
-  pub few : is_a Face i ≡ true → length (outline i) ≤ most_corners
+  pub few : is_face i ≡ true → length (all_corners i) ≤ most_corners
   pub measured : (fault : GridFault) → InstanceRefused scale mode i fault → ⊥
   pub indexed : is_set i ≡ true → HasBadIndex world i → ⊥
   pub cut : is_set i ≡ true → (triangles : List Triangle) × IsKept world scale mode triangles i

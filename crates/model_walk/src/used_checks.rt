@@ -1,19 +1,19 @@
 //! What the instances that are used show, by their kinds: each is looked at once.
-ghost use Rattle.std.specs.Prelude.{◌≡◌, ◌≤◌, true, false, length, All};
+ghost use Rattle.std.specs.Prelude.{◌≡◌, ◌≤◌, true, length, All};
 ghost use Rattle.std.specs.Bool.{OnTrue};
-ghost use Rattle.ifc_instances.specs.declared.entity.Entity.TheVariants.{Representation, AxisPlacement, Operator, RepresentationMap, Point, Face, FaceWithVoids};
+ghost use Rattle.ifc_instances.specs.declared.entity.Entity.TheVariants.{Representation, AxisPlacement, Operator, RepresentationMap, Point};
 ghost use Rattle.ifc_instances.specs.EntityLookup.{is_a};
 ghost use Rattle.ifc_units.specs.declared.length_error.GridFault.{GridFault};
 ghost use Rattle.ifc_units.specs.Lengths.{InstanceRefused};
 ghost use Rattle.placement.specs.declared.axes.Axes.{Axes};
 ghost use Rattle.placement.specs.Directions.{HasAxes};
 ghost use Rattle.placement.specs.Operators.{HasOperatorAxes};
-ghost use Rattle.faceset.specs.FaceSets.{outline, most_corners};
+ghost use Rattle.faceset.specs.FaceSets.{is_face, all_corners, most_corners};
 ghost use Rattle.ifc_elements.specs.Items.{is_mapped_item};
 ghost use Rattle.model_walk.specs.Clean.{LeadsToItem, HasReadItems, HasPlainScale, HasOperator, HasPlainOrigin, ShowsNone, grid_axis, identity};
 
 use bim_model::Mode;
-use faceset::{MOST_CORNERS, is_set, outline, place_of};
+use faceset::{has_many_corners, is_face, is_set, place_of};
 use ifc_elements::{is_item, is_mapped_item, spelled_items};
 use ifc_instances::Entity;
 use ifc_schema::is_body;
@@ -150,18 +150,11 @@ fn shows_origin(exchange: &Exchange, instance: &InstanceRef<'_>, scale: Scale, m
         || has_plain_origin(exchange, instance, scale, mode)
 }
 
-/// Whether it is no face with voids.
-fn is_solid(instance: &InstanceRef<'_>) -> bool
-    ensures { OnTrue result (is_a FaceWithVoids instance.now ≡ false) }
-{
-    !Entity::FaceWithVoids.includes(instance)
-}
-
 /// Whether a face has not too many corners.
 fn has_few_corners(instance: &InstanceRef<'_>) -> bool
-    ensures { OnTrue result (is_a Face instance.now ≡ true → length (outline instance.now) ≤ most_corners) }
+    ensures { OnTrue result (is_face instance.now ≡ true → length (all_corners instance.now) ≤ most_corners) }
 {
-    !Entity::Face.includes(instance) || outline(instance).len() <= MOST_CORNERS
+    !is_face(instance) || !has_many_corners(instance)
 }
 
 /// Whether the lengths of a point are on the grid and in reach.
@@ -195,9 +188,6 @@ pub fn shows_none(
         return false;
     }
     if !shows_origin(exchange, instance, scale, mode) {
-        return false;
-    }
-    if !is_solid(instance) {
         return false;
     }
     if !has_few_corners(instance) {

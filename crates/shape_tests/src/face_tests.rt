@@ -4,7 +4,9 @@ ghost use Rattle.bim_model.specs.Points.{grid_limit, IsGridPoint};
 
 use crate::sample_files::exchange_of;
 use bim_model::{BuildError, GRID_LIMIT, Point, Triangle};
-use faceset::{Learnt, has_bad_index, place_of, set_triangles, triangle_count};
+use faceset::{
+    Learnt, has_bad_index, has_unbridged, least_stuck, place_of, set_triangles, triangle_count,
+};
 use p21_reader::{Exchange, InstanceRef};
 use std::alloc::{AllocError, Global};
 use std::process::Abort;
@@ -258,7 +260,7 @@ fn sets_become_triangles(rt: HostRuntime) -> Result<(), Fail> {
 }
 
 /// A set over three points, which faces stand beside; whether an index is bad, and how many triangles there are.
-static CASES: [(&str, &str, bool, u64); 13] = [
+static CASES: [(&str, &str, bool, u64); 15] = [
     (
         "IFCTRIANGULATEDFACESET(#1,$,$,((1,2,3),(3,2,1)),$)",
         "",
@@ -333,6 +335,19 @@ static CASES: [(&str, &str, bool, u64); 13] = [
         true,
         1,
     ),
+    // an inner loop of three corners adds five triangles
+    (
+        "IFCPOLYGONALFACESET(#1,$,(#3),$)",
+        "#3=IFCINDEXEDPOLYGONALFACEWITHVOIDS((1,2,3),((1,2,3)));",
+        false,
+        6,
+    ),
+    (
+        "IFCPOLYGONALFACESET(#1,$,(#3),$)",
+        "#3=IFCINDEXEDPOLYGONALFACEWITHVOIDS((1,2,3),((1,2,4)));",
+        true,
+        6,
+    ),
 ];
 
 /// Whether an index of the set counts nothing, asked twice: the second time with what the first has learnt.
@@ -377,5 +392,106 @@ fn bad_indexes_and_counts_are_found(rt: HostRuntime) -> Result<(), Fail> {
         drop(exchange);
         counted?;
     }
+    Ok(())
+}
+
+/// A square, and one in it.
+static HOLED: [[i32; 3]; 8] = [
+    [0, 0, 0],
+    [300, 0, 0],
+    [300, 300, 0],
+    [0, 300, 0],
+    [100, 100, 0],
+    [200, 100, 0],
+    [200, 200, 0],
+    [100, 200, 0],
+];
+
+/// The triangles of the square with the other as its hole, in their order.
+static HOLED_TRIANGLES: [[[i32; 3]; 3]; 8] = [
+    [[0, 300, 0], [0, 0, 0], [100, 100, 0]],
+    [[0, 300, 0], [100, 100, 0], [100, 200, 0]],
+    [[0, 300, 0], [100, 200, 0], [200, 200, 0]],
+    [[200, 100, 0], [100, 100, 0], [0, 0, 0]],
+    [[200, 100, 0], [0, 0, 0], [300, 0, 0]],
+    [[200, 200, 0], [200, 100, 0], [300, 0, 0]],
+    [[200, 200, 0], [300, 0, 0], [300, 300, 0]],
+    [[200, 200, 0], [300, 300, 0], [0, 300, 0]],
+];
+
+fn assert_holed(rt: &impl Abort, made: &[Triangle]) {
+    assert_eq!(rt; made.len(), 8);
+    for (i, corners) in HOLED_TRIANGLES.iter().enumerate() {
+        match made.get(i) {
+            Some(found) => {
+                let wanted = triangle(corners[0], corners[1], corners[2]);
+                assert_eq!(rt; *found, wanted);
+            }
+            None => assert!(rt; false, "no triangle {i}"),
+        }
+    }
+}
+
+#[test]
+fn a_face_with_a_hole_is_cut(rt: HostRuntime) -> Result<(), Fail> {
+    let parts = [
+        POINTS,
+        "IFCPOLYGONALFACESET(#1,$,(#3),$);",
+        "#3=IFCINDEXEDPOLYGONALFACEWITHVOIDS((1,2,3,4),((5,6,7,8)));",
+    ];
+    match triangles_of(rt.alloc(), &parts, &HOLED)? {
+        Some(made) => {
+            assert_holed(&rt, &made);
+            drop(made);
+        }
+        None => assert!(rt; false, "it is cut"),
+    }
+    Ok(())
+}
+
+/// Whether face 3 of the set can't be cut, and its loops can't be joined; there is no face 4.
+fn assert_stuck(
+    rt: &impl Abort,
+    alloc: Global,
+    exchange: &Exchange,
+    points: &[Point],
+    apart: bool,
+) -> Result<(), AllocError>
+    requires { All IsGridPoint points.now }
+{
+    match exchange.look(2) {
+        Some(set) => {
+            let stuck = least_stuck(alloc, exchange, points, &set)?;
+            assert_eq!(rt; stuck, Some(3));
+            let found = has_unbridged(alloc, exchange, points, &set, 3)?;
+            assert_eq!(rt; found, apart);
+            let other = has_unbridged(alloc, exchange, points, &set, 4)?;
+            assert!(rt; !other);
+        }
+        None => assert!(rt; false, "no set"),
+    }
+    Ok(())
+}
+
+/// A face that can't be cut, and whether that is since its loops can't be joined.
+static STUCK: [(&str, bool); 2] = [
+    ("#3=IFCINDEXEDPOLYGONALFACE((1,3,2,4));", false),
+    (
+        "#3=IFCINDEXEDPOLYGONALFACEWITHVOIDS((5,6,7,8),((1,2,3,4)));",
+        true,
+    ),
+];
+
+#[test]
+fn loops_that_cant_be_joined_are_told(rt: HostRuntime) -> Result<(), Fail> {
+    let points = points_at(rt.alloc(), &HOLED)?;
+    for (face, apart) in STUCK.iter() {
+        let parts = [POINTS, "IFCPOLYGONALFACESET(#1,$,(#3),$);", *face];
+        let exchange = exchange_of(rt.alloc(), &parts)?;
+        let done = assert_stuck(&rt, rt.alloc(), &exchange, &points, *apart);
+        drop(exchange);
+        done?;
+    }
+    drop(points);
     Ok(())
 }

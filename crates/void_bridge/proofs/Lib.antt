@@ -2,6 +2,7 @@ pub mod Detours
 pub mod Kept
 pub mod PlacedCorners
 pub mod JoinedAreas
+pub mod JoinedCounts
 pub mod SameEdges
 pub mod Crossings
 pub mod FirstFound

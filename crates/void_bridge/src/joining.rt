@@ -1,5 +1,5 @@
 //! The loops of a face joined to one list of corners.
-ghost use Rattle.std.specs.Prelude.{◌≡◌, ◌≤◌, ◌<◌, ◌+◌, ◌++◌, ◌∷◌, [], length, map, All, IfOk, IfErr, MatchOption, None, Some, OnOk};
+ghost use Rattle.std.specs.Prelude.{◌≡◌, ◌≤◌, ◌<◌, ◌+◌, ◌*◌, ◌++◌, ◌∷◌, [], length, map, All, IfOk, IfErr, MatchOption, None, Some, OnOk};
 ghost use Rattle.bim_model.specs.Points.{IsGridPoint};
 ghost use Rattle.ear_cut.specs.Corners.{AreInGrid};
 ghost use Rattle.void_bridge.specs.HoleLoops.{corner_count, IsLoop, AreLoops};
@@ -197,6 +197,8 @@ pub fn join_loops(
         joined_of outer.now (map (λ loop. loop.items) inner.now) ≡ Some list.items) }
     ensures stuck { IfErr result (λ fault. fault ≡ BridgeError.Stuck
         → joined_of outer.now (map (λ loop. loop.items) inner.now) ≡ None) }
+    ensures count { IfOk result (λ list. length list.items
+        ≡ length outer.now + corner_count (map (λ loop. loop.items) inner.now) + 2 * length inner.now) }
     ensures areas { IfOk result (λ list.
         IsAreaSum outer.now (map (λ loop. loop.items) inner.now) list.items) }
 {

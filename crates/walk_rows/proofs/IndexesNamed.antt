@@ -8,7 +8,9 @@ use Rattle.p21_values.specs.declared.value.Value21.{Value21}
 use Rattle.p21_values.specs.declared.value.Instance.{Instance}
 use Rattle.p21_values.specs.Attributes.{items_in}
 use Rattle.faceset.specs.Indexes.{PointsAt, PointsNowhere}
-use Rattle.faceset.specs.FaceSets.{IsCorner, IsTriangle, AreTriangles, AreCorners, IsCut, Joined, SetTriangles, HasBadNumber, HasBadIndex, counted_by, numbering, spelled_points, is_polygonal, rows_of, outline, faces_of, spelled_triangles}
+use Rattle.faceset.specs.FaceSets.{IsCorner, IsTriangle, AreTriangles, AreCorners, IsCut, Joined, SetTriangles, HasBadNumber, HasBadIndex, counted_by, numbering, spelled_points, is_polygonal, rows_of, all_corners, faces_of, spelled_triangles}
+use Rattle.faceset.specs.FacePolygons.{face_points}
+use Rattle.faceset.proofs.Loops.{all_cornered}
 use Rattle.walk_rows.specs.SetRows.{NamesOne, NamesPoints}
 
 -- the first of a list, or a later one
@@ -57,10 +59,10 @@ rows_good names points (v ∷ vs) (t ∷ ts) z any = elim (first_or (Any (Points
   | inr later ↦ rows_good names points vs ts z.1 later
 ]
 
-faces_good : (names : Option (List Value21)) (points : List Point) (faces : List Instance) (ts : List Triangle) → Joined (IsCut names points) faces ts → Any (Any (PointsNowhere (counted_by names (length points)))) (map outline faces) → ⊥
+faces_good : (names : Option (List Value21)) (points : List Point) (faces : List Instance) (ts : List Triangle) → Joined (IsCut names points) faces ts → Any (Any (PointsNowhere (counted_by names (length points)))) (map all_corners faces) → ⊥
 faces_good names points [] ts j any = no_first (Any (PointsNowhere (counted_by names (length points)))) any
-faces_good names points (f ∷ faces) ts j any = elim (first_or (Any (PointsNowhere (counted_by names (length points)))) (outline f) (map outline faces) any) [
-  | inl here ↦ corners_good names points (outline f) j.2.corners j.2.are_corners here
+faces_good names points (f ∷ faces) ts j any = elim (first_or (Any (PointsNowhere (counted_by names (length points)))) (all_corners f) (map all_corners faces) any) [
+  | inl here ↦ corners_good names points (all_corners f) (face_points j.2.outer j.2.inner) (all_cornered names points f j.2.outer j.2.inner j.2.are_loops) here
   | inr later ↦ faces_good names points faces j.1 j.3 later
 ]
 

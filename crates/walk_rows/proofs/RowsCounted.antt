@@ -1,22 +1,14 @@
 -- A set has as many triangles as are counted of it.
 use Rattle.std.proofs.Common.{◌≡◌, Bool, true, false, List, [], ◌∷◌, length, sum_by, Option, refl, sym, ap, ◌∙◌, arith}
-use Rattle.std.proofs.lemmas.List.{length-map, length-append}
+use Rattle.std.proofs.lemmas.List.{length-append}
 use Rattle.std.proofs.lemmas.List.Sums.{sum_by-cons}
 use Rattle.bim_model.specs.declared.geometry.Point.{Point}
 use Rattle.bim_model.specs.declared.geometry.Triangle.{Triangle}
 use Rattle.p21_values.specs.declared.value.Value21.{Value21}
 use Rattle.p21_values.specs.declared.value.Instance.{Instance}
-use Rattle.ear_cut.proofs.AreaSum.{count_of_ears}
-use Rattle.faceset.specs.FaceSets.{IsCorner, IsTriangle, IsCut, Joined, SetTriangles, numbering, is_polygonal, outline, faces_of, spelled_triangles, face_count, triangle_count, triangle_of}
+use Rattle.faceset.specs.FaceSets.{IsTriangle, IsCut, Joined, SetTriangles, numbering, is_polygonal, faces_of, spelled_triangles, face_count, triangle_count}
+use Rattle.faceset.proofs.Loops.{cut_count}
 use Rattle.walk_rows.proofs.RowsNamed.{zip_long}
-
-cut_count : (names : Option (List Value21)) (points : List Point) (face : Instance) (ts : List Triangle) → IsCut names points face ts → length ts ≡ face_count face
-cut_count names points face ts c =
-    let long = zip_long (IsCorner names points) (outline face) c.corners c.are_corners in
-    let many = ap length c.are_triangles ∙ length-map c.ears (triangle_of c.corners) in
-    let least = c.outlined.0 in
-    let ears = count_of_ears c.corners c.ears (omega (arith, least, long)) c.cut in
-    omega (arith, long, many, ears, least)
 
 faces_count : (names : Option (List Value21)) (points : List Point) (faces : List Instance) (ts : List Triangle) → Joined (IsCut names points) faces ts → length ts ≡ sum_by face_count faces
 faces_count names points [] ts j = ap length j

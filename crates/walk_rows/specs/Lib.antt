@@ -1,3 +1,4 @@
 pub mod Pools
 pub mod Rows
 pub mod SetRows
+pub mod inner

@@ -7,10 +7,8 @@ use Rattle.p21_values.specs.declared.value.Instance.{Instance}
 use Rattle.p21_values.specs.Values.{items_of, is_absent, reference_of}
 use Rattle.p21_values.specs.InstanceLookup.{look}
 use Rattle.p21_values.specs.Attributes.{listed}
-use Rattle.ifc_instances.specs.declared.entity.Entity.TheVariants.{Face}
-use Rattle.ifc_instances.specs.EntityLookup.{is_a}
 use Rattle.faceset.specs.Indexes.{PointsAt}
-use Rattle.faceset.specs.FaceSets.{is_polygonal, numbering_place}
+use Rattle.faceset.specs.FaceSets.{is_polygonal, is_face, numbering_place}
 
 -- the attribute with the numbers of the points is a list, or is left out
 abbrev pub HasNumbering : Instance → Type 0
@@ -25,14 +23,14 @@ NamesOne count v = (k : ℕ) × PointsAt count v k
 abbrev pub NamesPoints : ℕ → Option (List Value21) → Type 0
 NamesPoints count numbers = MatchOption numbers ⊤ (All (NamesOne count))
 
--- a value refers to a face without voids
+-- a value refers to a face, with voids or without
 pub record LeadsToFace (world : List Instance) (v : Value21) : Type 0 where
   pub to : ℕ
   pub refers : reference_of v ≡ Some to
   pub face : Instance
   pub found : look world to ≡ Some face
-  pub kind : is_a Face face ≡ true
+  pub kind : is_face face ≡ true
 
--- the faces of a polygonal set are faces without voids
+-- the faces of a polygonal set are faces
 abbrev pub NamesFaces : List Instance → Instance → Type 0
 NamesFaces world set = is_polygonal set ≡ true → All (LeadsToFace world) (listed set 2)

@@ -1,21 +1,23 @@
-//! The triangles of faces, as rows (IFC4 ADD2 TC1, IfcPolygonalFaceSet, IfcIndexedPolygonalFace).
-ghost use Rattle.std.specs.Prelude.{◌≡◌, ◌<◌, ◌≤◌, ◌^◌, ◌++◌, ◌∷◌, [], List, Option, All, length, map, IfOk, IfSome, OnOk, option_copied};
+//! The triangles of faces, as rows (IFC4 ADD2 TC1, IfcPolygonalFaceSet, IfcIndexedPolygonalFace,
+//! IfcIndexedPolygonalFaceWithVoids).
+ghost use Rattle.std.specs.Prelude.{◌≡◌, ◌<◌, ◌≤◌, ◌+◌, ◌^◌, ◌++◌, ◌∷◌, [], List, Option, Some, All, length, map, IfOk, IfSome, OnOk, option_copied};
 ghost use Rattle.std.specs.Bool.{OnTrue};
-ghost use Rattle.std.specs.List.{AllZip};
+ghost use Rattle.std.specs.List.{AllZip, flat_map};
 ghost use Rattle.bim_model.specs.Points.{IsGridPoint};
 ghost use Rattle.p21_values.specs.declared.value.Value21.{Value21};
-ghost use Rattle.p21_values.specs.Attributes.{led_to};
+ghost use Rattle.p21_values.specs.Attributes.{items_in, led_to};
 ghost use Rattle.ear_cut.specs.Areas.{point_at};
+ghost use Rattle.faceset.specs.FacePolygons.{ears_of};
 ghost use Rattle.faceset.specs.FaceSets.{NamesPoint, IsCut, Joined, most_corners};
 ghost use Rattle.walk_rows.specs.Rows.{AreNumbers, AddsRows, place_at, row_at, triangles_at};
 ghost use Rattle.walk_rows.specs.SetRows.{LeadsToFace};
+ghost use Rattle.walk_rows.specs.inner.LoopRows.{AreRings, NamesLoops, HasRings, inner_of};
 
 use crate::row_places::place_named;
-use crate::triangle_rows::{Row, point_at};
+use crate::triangle_rows::Row;
 use bim_model::Point;
-use ear_cut::{CutFault, Ear, cut};
-use faceset::{MOST_CORNERS, outline};
-use ifc_instances::Entity;
+use ear_cut::Ear;
+use faceset::{LoopsCut, MOST_CORNERS, cut_loops, is_face, outline, points_at, spelled_loops};
 use p21_table::{Exchange, InstanceRef, ValueRef, Values};
 use std::alloc::{AllocError, Global};
 
@@ -45,13 +47,124 @@ fn corner_places(
     Ok(Some(made))
 }
 
-/// The points at these places.
-fn corners_at(alloc: Global, points: &[Point], places: &[u32]) -> Result<Vec<Point>, AllocError>
-    ensures { IfOk result (λ made. made.items ≡ map (point_at points.now) places.now) }
+/// Which points the corners of a loop are. None where they are fewer than three or too many, or an index names none.
+fn loop_places(
+    alloc: Global,
+    indexes: &Values<'_>,
+    numbers: Option<&[u32]>,
+    count: usize,
+) -> Result<Option<Vec<u32>>, AllocError>
+    requires { count < 2 ^ 32 }
+    ensures places { (names : Option (List Value21)) → AreNumbers count names (option_copied numbers.entry)
+        → IfOk result (λ found. IfSome found (λ places.
+        AllZip (NamesPoint names count) indexes.now places.items)) }
+    ensures few { IfOk result (λ found. IfSome found (λ places. length places.items ≤ most_corners)) }
+    ensures three { IfOk result (λ found. IfSome found (λ places. 2 < length places.items)) }
 {
-    let mut made = Vec::with_capacity(alloc, places.len())?;
-    for place in places {
-        made.push(point_at(points, *place))?;
+    let Some(places) = corner_places(alloc, indexes, numbers, count)? else {
+        return Ok(None);
+    };
+    if places.len() < 3 {
+        return Ok(None);
+    }
+    Ok(Some(places))
+}
+
+/// Which points the corners of inner loops are. None where a loop's are none, or there are too many with those before.
+fn inner_places(
+    alloc: Global,
+    rows: &Values<'_>,
+    numbers: Option<&[u32]>,
+    count: usize,
+    before: usize,
+) -> Result<Option<Vec<Vec<u32>>>, AllocError>
+    requires count { count < 2 ^ 32 }
+    requires before { before ≤ most_corners }
+    ensures places { (names : Option (List Value21)) → AreNumbers count names (option_copied numbers.entry)
+        → IfOk result (λ found. IfSome found (λ made.
+        AllZip (AllZip (NamesPoint names count)) (map items_in rows.now)
+        (map (λ ring. ring.items) made.items))) }
+    ensures many { IfOk result (λ found. IfSome found (λ made.
+        AreRings before (map (λ ring. ring.items) made.items))) }
+{
+    let mut made = Vec::new(alloc);
+    let mut total = before;
+    for row in rows.iter() {
+        let Some(places) = loop_places(alloc, &row.items_in(), numbers, count)? else {
+            return Ok(None);
+        };
+        total += places.len();
+        if total > MOST_CORNERS {
+            return Ok(None);
+        }
+        made.push(places)?;
+    }
+    Ok(Some(made))
+}
+
+/// Which points the corners of the loops of a face are.
+#[derive(Drop)]
+pub struct LoopPlaces {
+    pub outer: Vec<u32>,
+    pub inner: Vec<Vec<u32>>,
+}
+
+/// Which points the corners of a face are. None where a loop has too few or all together too many, or an index names none.
+fn face_places(
+    alloc: Global,
+    face: &InstanceRef<'_>,
+    numbers: Option<&[u32]>,
+    count: usize,
+) -> Result<Option<LoopPlaces>, AllocError>
+    requires { count < 2 ^ 32 }
+    ensures places { (names : Option (List Value21)) → AreNumbers count names (option_copied numbers.entry)
+        → IfOk result (λ found. IfSome found (NamesLoops names count face.now)) }
+    ensures many { IfOk result (λ found. IfSome found HasRings) }
+{
+    let Some(outer) = loop_places(alloc, &outline(face), numbers, count)? else {
+        return Ok(None);
+    };
+    let rows = spelled_loops(face);
+    match inner_places(alloc, &rows, numbers, count, outer.len())? {
+        Some(inner) => Ok(Some(LoopPlaces { outer, inner })),
+        None => Ok(None),
+    }
+}
+
+/// Adds the places of the inner loops of a face, one loop after another, to those of its outline.
+fn add_places(all: &mut Vec<u32>, inner: &[Vec<u32>]) -> Result<(), AllocError>
+    ensures { OnOk result (all.new.items ≡ all.old.items
+        ++ flat_map (λ ring. ring) (map (λ ring. ring.items) inner.now)) }
+{
+    for ring in inner {
+        all.extend_from_slice(ring)?;
+    }
+    Ok(())
+}
+
+/// Which points the corners of a face are, one loop after another.
+fn all_places(places: LoopPlaces) -> Result<Vec<u32>, AllocError>
+    ensures { IfOk result (λ all. all.items
+        ≡ places.outer.items ++ flat_map (λ ring. ring) (map (λ ring. ring.items) places.inner.items)) }
+{
+    let LoopPlaces { outer, inner } = places;
+    let mut all = outer;
+    add_places(&mut all, &inner)?;
+    Ok(all)
+}
+
+/// The points of loops.
+fn rings_at(
+    alloc: Global,
+    points: &[Point],
+    rings: &[Vec<u32>],
+) -> Result<Vec<Vec<Point>>, AllocError>
+    ensures { IfOk result (λ made. map (λ ring. ring.items) made.items
+        ≡ map (map (point_at points.now)) (map (λ ring. ring.items) rings.now)) }
+{
+    let mut made = Vec::new(alloc);
+    for ring in rings {
+        made.push(points_at(alloc, points, ring)?)?;
     }
     Ok(made)
 }
@@ -87,7 +200,29 @@ fn add_ears(places: &[u32], ears: &[Ear], rows: &mut Vec<Row>) -> Result<(), All
     Ok(())
 }
 
-/// Adds the rows of a face. False where it has too few corners or too many, an index that names no point, or can't be cut.
+/// The triangles of a face, by places among all its corners. None where it can't be cut.
+fn face_ears(
+    alloc: Global,
+    points: &[Point],
+    places: &LoopPlaces,
+) -> Result<Option<Vec<Ear>>, AllocError>
+    requires in_grid { All IsGridPoint points.now }
+    requires rings { HasRings places.now }
+    ensures { IfOk result (λ found. IfSome found (λ ears. ears_of
+        (map (point_at points.now) places.now.outer.items)
+        (map (map (point_at points.now)) (inner_of places.now)) ≡ Some ears.items)) }
+{
+    let outer = points_at(alloc, points, &places.outer)?;
+    let inner = rings_at(alloc, points, &places.inner)?;
+    match cut_loops(alloc, &outer, &inner)? {
+        LoopsCut::Cut(ears) => Ok(Some(ears)),
+        LoopsCut::Stuck => Ok(None),
+        LoopsCut::Apart => Ok(None),
+    }
+}
+
+/// Adds the rows of a face. False where it has too few corners or too many, an index that names no point, or can't
+/// be cut.
 fn add_face(
     alloc: Global,
     face: &InstanceRef<'_>,
@@ -102,21 +237,15 @@ fn add_face(
         → IfOk result (λ added. OnTrue added
         (AddsRows points.now (IsCut names points.now face.now) rows.old.items rows.new.items)) }
 {
-    let Some(places) = corner_places(alloc, &outline(face), numbers, points.len())? else {
+    let Some(places) = face_places(alloc, face, numbers, points.len())? else {
         return Ok(false);
     };
-    if places.len() < 3 {
+    let Some(ears) = face_ears(alloc, points, &places)? else {
         return Ok(false);
-    }
-    let corners = corners_at(alloc, points, &places)?;
-    match cut(alloc, &corners) {
-        Ok(ears) => {
-            add_ears(&places, &ears, rows)?;
-            Ok(true)
-        }
-        Err(CutFault::Stuck) => Ok(false),
-        Err(CutFault::Memory) => Err(AllocError),
-    }
+    };
+    let all = all_places(places)?;
+    add_ears(&all, &ears, rows)?;
+    Ok(true)
 }
 
 /// Adds the rows of the face that a value refers to.
@@ -139,7 +268,7 @@ fn add_face_of(
 {
     match exchange.target(value) {
         Some(face) => {
-            if !Entity::Face.includes(&face) {
+            if !is_face(&face) {
                 return Ok(false);
             }
             add_face(alloc, &face, numbers, points, rows)

@@ -9,4 +9,4 @@ mod triangle_rows;
 
 pub use pool::Pool;
 pub use set_rows::rows_of_set;
-pub use triangle_rows::{Row, point_at, triangle_at};
+pub use triangle_rows::{Row, triangle_at};

@@ -1,9 +1,9 @@
 //! Triangles by the places of their corners in a list of points.
 ghost use Rattle.std.specs.Prelude.{◌≡◌};
-ghost use Rattle.ear_cut.specs.Areas.{point_at};
 ghost use Rattle.walk_rows.specs.Rows.{triangle_at};
 
 use bim_model::{Point, Triangle};
+use faceset::point_at;
 
 /// A triangle by the places of its corners in a list of points, from 0.
 #[derive(Clone, Copy, Debug, PartialEq, Eq)]
@@ -11,16 +11,6 @@ pub struct Row {
     pub a: u32,
     pub b: u32,
     pub c: u32,
-}
-
-/// The point at a place.
-pub fn point_at(points: &[Point], place: u32) -> Point
-    ensures { result ≡ point_at points.now place }
-{
-    match points.get(place as usize) {
-        Some(point) => *point,
-        None => Point { x: 0, y: 0, z: 0 },
-    }
 }
 
 /// The triangle whose corners stand there.

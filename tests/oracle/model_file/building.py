@@ -6,11 +6,13 @@ from functools import cached_property, lru_cache
 from tests.oracle.faults import Refused
 from tests.oracle.faults import Tree as Json
 from tests.oracle.model_file.attributes import FACES, ITEMS, OPERATOR, Survey
+from tests.oracle.model_file.bridges import Joining
 from tests.oracle.model_file.faces import (
     faces_of,
     has_bad_index,
     is_polygonal,
     loops_of,
+    loops_of_face,
     places,
     points_of,
     sets_of,
@@ -79,6 +81,8 @@ class Building:
         self.axes: dict[int, Frame] = {}
         self.points: dict[int, list[Point]] = {}
         self.local: dict[int, list[Triangle]] = {}
+        self.apart: list[int] = []
+        self.stuck: list[int] = []
 
     def refuse(self, code: str, word: str, ids: list[int]) -> None:
         """Refuses the file where an instance is at fault, the one of the least number."""
@@ -166,8 +170,7 @@ class Building:
                 found += self.unsupported(item, id in self.survey.mapped)
         self.refuse("U13", "UnsupportedItem", found)
 
-    def check_faces(self) -> None:
-        self.refuse("U16", "VoidedFace", self.survey.of(FACES[1]))
+    def check_indexes(self) -> None:
         bad = [id for id in sets_of(self.survey) if has_bad_index(self.exchange, id)]
         self.refuse("U14", "BadIndex", bad)
 
@@ -190,32 +193,45 @@ class Building:
             self.points[id] = [self.point_of(id, it) for it in listed]
 
     def check_corners(self) -> None:
-        faces = self.survey.of(*FACES)
-        counts = (self.exchange.attribute(id, 0) for id in faces)
-        if any(isinstance(it, list) and len(it) > MOST_CORNERS for it in counts):
-            raise too_many("corners")
+        for face in self.survey.of(*FACES):
+            if sum(len(it) for it in loops_of_face(self.exchange, face)) > MOST_CORNERS:
+                raise too_many("corners")
 
-    def cut(self, points: list[Point], loop: list[int]) -> list[Triangle] | None:
-        corners = [points[at] for at in loop]
+    def cut(self, corners: list[Point]) -> list[Triangle] | None:
         ears = Polygon(corners).cut()
         return None if ears is None else [(corners[a], corners[b], corners[c]) for a, b, c in ears]
 
+    def cut_face(self, points: list[Point], id: int, face: int) -> list[Triangle] | None:
+        """The triangles of a face of a set. None where it is stuck, whose fault is noted."""
+        loops = [places(self.exchange, id, it) for it in loops_of_face(self.exchange, face)]
+        corners = [[points[at] for at in loop] for loop in loops]
+        joined = corners[0]
+        if len(loops) > 1:
+            listed = Joining(corners).joined()
+            if listed is None:
+                self.apart.append(face)
+                return None
+            every = [corner for loop in corners for corner in loop]
+            joined = [every[at] for at in listed]
+        cut = self.cut(joined)
+        if cut is None:
+            self.stuck.append(face)
+        return cut
+
     def check_cutting(self) -> None:
-        """Cuts the faces of all sets; U15 where one can't be cut."""
-        stuck = []
+        """Cuts the faces of all sets; U16 where loops can't be joined, U15 where their list can't
+        be cut. Of the first face that has one, U16 stands before U15."""
         for id in sets_of(self.survey):
             points = self.points[points_of(self.exchange, id)]
-            loops = [places(self.exchange, id, it) for it in loops_of(self.exchange, id)]
-            self.local[id] = []
             if not is_polygonal(self.exchange, id):
+                loops = [places(self.exchange, id, it) for it in loops_of(self.exchange, id)]
                 self.local[id] = [(points[a], points[b], points[c]) for a, b, c in loops]
                 continue
-            for face, loop in zip(faces_of(self.exchange, id), loops, strict=True):
-                cut = self.cut(points, loop)
-                if cut is None:
-                    stuck.append(face)
-                self.local[id] += cut or []
-        self.refuse("U15", "FaceStuck", stuck)
+            cut = [self.cut_face(points, id, face) for face in faces_of(self.exchange, id)]
+            self.local[id] = [triangle for it in cut for triangle in it or []]
+        least = min(self.apart + self.stuck, default=0)
+        self.refuse("U16", "VoidedFace", [it for it in self.apart if it == least])
+        self.refuse("U15", "FaceStuck", [it for it in self.stuck if it == least])
 
     def frame(self, axes: int, location: int) -> Frame:
         """The axes of a placement or operator, with its offset."""
@@ -274,7 +290,7 @@ class Building:
         self.check_chains()
         self.check_axes()
         self.check_items()
-        self.check_faces()
+        self.check_indexes()
         self.check_points()
         self.check_corners()
         self.check_cutting()

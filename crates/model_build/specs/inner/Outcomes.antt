@@ -1,9 +1,10 @@
 -- What is known of a file after each group of checks. No public contract cites it.
-use Rattle.std.specs.Prelude.{◌≡◌, ℕ, ◌≤◌, true, List, sum_by, Contains, Any, Some}
+use Rattle.std.specs.Prelude.{◌≡◌, ℕ, ◌≤◌, true, List, sum_by, Contains, Any, Option, Some}
 use Rattle.bim_model.specs.declared.upload.Mode.{Mode}
 use Rattle.bim_model.specs.declared.upload.UploadFault.{UploadFault}
 use Rattle.bim_model.specs.declared.upload.BuildError.{BuildError}
 use Rattle.bim_model.specs.declared.upload.BuildError.TheVariants as errors
+use Rattle.p21_values.specs.declared.value.Value21.{Value21}
 use Rattle.p21_values.specs.declared.value.Instance.{Instance}
 use Rattle.ifc_schema.specs.Surveys.{Surveyed, used_ids, element_ids}
 use Rattle.ifc_units.specs.Units.{IsLengthUnit}
@@ -16,12 +17,12 @@ use Rattle.model_build.specs.Stages.{UnitStage}
 use Rattle.ifc_elements.specs.Finding.{Finds}
 use Rattle.p21_values.specs.Attributes.{reference_at}
 use Rattle.model_build.specs.DuplicateGuids.{NoneRepeats}
-use Rattle.model_build.specs.FaultyInstances.{NoneOf, IsVoided, IsBadSet, IsOblique}
+use Rattle.model_build.specs.FaultyInstances.{NoneOf, IsBadSet, IsOblique}
 use Rattle.ifc_elements.specs.PointTables.{ListsPoints}
 use Rattle.model_build.specs.LengthFaults.{LengthFault}
 use Rattle.model_build.specs.Unsupported.{IsUnsupported}
 use Rattle.model_build.specs.Faces.{HasManyCorners}
-use Rattle.faceset.specs.FaceSets.{is_set, HasStuck}
+use Rattle.faceset.specs.FaceSets.{is_set, IsStuck, IsUnbridged, HasFace}
 use Rattle.bim_model.specs.declared.geometry.Point.{Point}
 use Rattle.bim_model.specs.declared.geometry.Triangle.{Triangle}
 use Rattle.p21_values.specs.InstanceLookup.{look}
@@ -59,12 +60,11 @@ pub record IsOpened (file : File) : Type 0 where
   pub distinct : NoneRepeats file.exchange (element_ids file.survey)
   pub has_chains : HasChains file.exchange (element_ids file.survey) file.chains
 
--- What is known once its axes, its items, its faces and their indexes are read.
+-- What is known once its axes, its items and the indexes of its sets are read.
 pub record IsSupported (file : File) : Type 0 where
   pub opened : IsOpened file
   pub square : NoneOf (used_ids file.survey) (IsOblique file.exchange)
   pub supported : (id : ℕ) → IsUnsupported file.exchange file.scale file.mode id → ⊥
-  pub solid : NoneOf (used_ids file.survey) (IsVoided file.exchange)
   pub indexed : NoneOf (used_ids file.survey) (IsBadSet file.exchange)
 
 -- What is known once its lengths are on the grid, and its faces have few corners.
@@ -89,8 +89,17 @@ AreSound world scale mode listed =
     (id : ℕ) → Contains listed id → (s : Instance) → look world id ≡ Some s → is_set s ≡ true
     → IsSoundSet world scale mode s
 
--- the set of that number, whose points are on the grid, has that face, which can't be cut
-abbrev pub ShowsStuckSet : List Instance → Scale → Mode → ℕ → ℕ → Type 0
-ShowsStuckSet world scale mode set id =
+-- the set of that number, whose points are on the grid, has that face, of which something holds
+abbrev pub ShowsFaceSet : (Option (List Value21) → List Point → Instance → Type 0) → List Instance → Scale
+    → Mode → ℕ → ℕ → Type 0
+ShowsFaceSet Is world scale mode set id =
     Finds world set (λ s. (is_set s ≡ true) × (list : ℕ) × (reference_at s 0 ≡ Some list)
-    × (points : List Point) × ListsPoints world scale mode list points × HasStuck world points s id)
+    × (points : List Point) × ListsPoints world scale mode list points × HasFace Is world points s id)
+
+-- .. it can't be cut
+abbrev pub ShowsStuckSet : List Instance → Scale → Mode → ℕ → ℕ → Type 0
+ShowsStuckSet = ShowsFaceSet IsStuck
+
+-- .. its loops can't be joined
+abbrev pub ShowsApartSet : List Instance → Scale → Mode → ℕ → ℕ → Type 0
+ShowsApartSet = ShowsFaceSet IsUnbridged

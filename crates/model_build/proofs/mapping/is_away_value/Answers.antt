@@ -1,4 +1,4 @@
-use Rattle.std.proofs.Common.{◌≡◌, Bool, Some, ap, sym, ◌∙◌, subst}
+use Rattle.std.proofs.Common.{Bool, Some, ap, sym, ◌∙◌, subst}
 use Rattle.std.specs.Bool.{MatchBool}
 use Rattle.model_build.specs.Unsupported.{IsAwayValue}
 use Rattle.model_build.proofs.LocationsAway.{away_told}

@@ -19,7 +19,6 @@ returns c = by_test c.is_measured.result c.is_measured.ensures
       carries = OnTrue_at c.if-not-shows_operator_axes.false c.shows_operator_axes.ensures;
       operator = OnTrue_at c.if-not-shows_operator.false c.shows_operator.ensures;
       origin = OnTrue_at c.if-not-shows_origin.false c.shows_origin.ensures;
-      solid = OnTrue_at c.if-not-is_solid.false c.is_solid.ensures;
       few = OnTrue_at c.if-not-has_few_corners.false c.has_few_corners.ensures;
       point = point;
     }

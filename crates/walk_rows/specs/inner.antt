@@ -1,0 +1,2 @@
+-- What mirrors the code: the loops of faces by places.
+pub mod LoopRows
