@@ -90,10 +90,11 @@ pub fn finish(
     state.entries.reserve(1)?;
     let project = &mut state.projects[number as usize - 1];
     let left = project.live[place].put(set);
-    state.entries.push_reserved(Entry {
+    let entry = Entry {
         stamp,
         project: number,
         change: Change::BucketDone { version, cell },
-    });
+    };
+    state.append(entry, 0, 0);
     Ok(ReplyBody::Finished { left })
 }
