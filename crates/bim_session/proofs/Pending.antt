@@ -19,17 +19,14 @@ use Rattle.bcf_topics.specs.declared.topic.Topic.{Topic}
 use Rattle.bcf_topics.specs.declared.comment.Comment.{Comment}
 use Rattle.bcf_topics.specs.declared.comment.CommentIn.{CommentIn}
 use Rattle.bcf_topics.specs.declared.comment.CommentBody.{CommentBody}
-use Rattle.bcf_topics.specs.Comments.{comments_on}
-use Rattle.bcf_viewpoints.specs.Viewpoints.{views_on}
-use Rattle.book_topics.specs.Boards.{topic_at, comment_at, view_at}
 use Rattle.book_topics.specs.TopicIdentifiers.{topic_named, comment_named, view_named, comment_kept}
 use Rattle.bcf_viewpoints.specs.declared.view.ViewBody.{ViewBody}
-use Rattle.bcf_viewpoints.specs.declared.view.ViewIs.{ViewIs}
 use Rattle.book_history.specs.declared.book_fault.BookFault.TheVariants.{Pending, NoModel, NoTopic, NoComment, NoViewpoint}
+use Rattle.book_history.specs.declared.replies.ReplyBody.{ReplyBody}
 use Rattle.book_history.specs.declared.replies.ReplyBody.TheVariants as reply
 use Rattle.book_history.specs.declared.requests.Wanted.{Wanted}
 use Rattle.book_history.specs.declared.requests.BookRequest.{BookRequest}
-use Rattle.book_history.specs.declared.requests.BookRequest.TheVariants.{ListProjects, ReadProject, Upload, Remove, SetRules, ReadVersion, ReadClashes, ClashTopic, ListTopics, ReadTopic, PostTopic, PutTopic, DeleteTopic, ListComments, ReadComment, PostComment, PutComment, DeleteComment, ListViews, ReadView, PostView, DeleteView, TakeWork, Finish}
+use Rattle.book_history.specs.declared.requests.BookRequest.TheVariants.{Upload, Remove, SetRules, ReadVersion, ReadClashes, ClashTopic, PostTopic, PutTopic, DeleteTopic, PostComment, PutComment, DeleteComment, PostView, DeleteView, TakeWork, Finish}
 use Rattle.book_history.specs.Orders.{OrderValue}
 use Rattle.book_history.specs.Versions.{VersionState, nothing, version_at, live_in}
 use Rattle.book_history.specs.Projects.{ProjectState, newest, with_change}
@@ -43,6 +40,7 @@ use Rattle.book_history.proofs.Histories.{AreAbove, above_of, added_of}
 use Rattle.bim_session.specs.declared.end.SessionEnd.{SessionEnd}
 use Rattle.bim_session.specs.Works.{Standing, Printed, Gives, WorksOn, Works, WorksShort, IsEnough, left_behind, last_turn}
 use Rattle.bim_session.specs.Session.{Asking, asking, TakesTurn, TakesIdly, TakesUnanswered, Answers, AnswersEvent, WorksBehind, Answered, Stop, Ends, IsNext, past}
+use Rattle.bim_session.specs.Talking.{is_refusal}
 use Rattle.bim_session.specs.Replay.{beginning, IsPending, reply_at, NoneIsPending}
 use Rattle.bim_session.proofs.Sessions.{last_turn-append, on_last}
 
@@ -94,82 +92,31 @@ calm_view : (serial : ℕ) (o : Option ViewBody) → IsPending (view_told serial
 calm_view serial None p = let e = p.2 in cc
 calm_view serial (Some body) p = let e = p.2 in cc
 
-calm_comments : (comments : List Comment) → IsPending (reply.CommentList comments) → ⊥
-calm_comments comments p = let e = p.2 in cc
-
-calm_views : (views : List ViewIs) → IsPending (reply.ViewList views) → ⊥
-calm_views views p = let e = p.2 in cc
-
 calm_accepted : (h : List Entry) (n : ℕ) (before after : ProjectState) (c : Change) → IsPending (reply_to before c after) → ⊥
-calm_accepted h n before after (change.PostTopic body author weight) p = let e = p.2 in cc
-calm_accepted h n before after (change.Upload name model) p = let e = p.2 in cc
-calm_accepted h n before after (change.Remove name) p = let e = p.2 in cc
-calm_accepted h n before after (change.SetRules rules weight) p = let e = p.2 in cc
-calm_accepted h n before after (change.BucketDone number cell) p = let e = p.2 in cc
 calm_accepted h n before after (change.PutTopic topic body author weight) p = calm_topic _ p
-calm_accepted h n before after (change.DeleteTopic topic) p = let e = p.2 in cc
-calm_accepted h n before after (change.PostComment topic body author weight) p = let e = p.2 in cc
 calm_accepted h n before after (change.PutComment topic comment body author weight) p = calm_comment _ p
-calm_accepted h n before after (change.DeleteComment topic comment) p = let e = p.2 in cc
-calm_accepted h n before after (change.PostView topic body weight) p = let e = p.2 in cc
-calm_accepted h n before after (change.DeleteView topic view) p = let e = p.2 in cc
 calm_accepted h n before after (change.ClashTopic version place author weight) p = calm_topic _ p
+calm_accepted h n before after _ p = let e = p.2 in cc
 
 full_other : (settings : Settings) (h : List Entry) (n : ℕ) (c : Change) → AreOther (full settings h n c)
-full_other settings h n (change.PostTopic body author weight) =
-    (tt, (tt, (other_if _ _ (λ v l e. cc), (other_if _ _ (λ v l e. cc), (other_if _ _ (λ v l e. cc), tt)))))
 full_other settings h n (change.Upload name model) =
     (other_if _ _ (λ v l e. cc), (other_if _ _ (λ v l e. cc), (other_if _ _ (λ v l e. cc), (other_if _ _ (λ v l e. cc), (other_if _ _ (λ v l e. cc), tt)))))
 full_other settings h n (change.Remove name) =
     (other_if _ _ (λ v l e. cc), (other_if _ _ (λ v l e. cc), (other_if _ _ (λ v l e. cc), (other_if _ _ (λ v l e. cc), (other_if _ _ (λ v l e. cc), tt)))))
 full_other settings h n (change.SetRules rules weight) =
     (other_if _ _ (λ v l e. cc), (other_if _ _ (λ v l e. cc), (other_if _ _ (λ v l e. cc), (other_if _ _ (λ v l e. cc), (other_if _ _ (λ v l e. cc), tt)))))
-full_other settings h n (change.BucketDone version cell) =
-    (tt, (tt, (other_if _ _ (λ v l e. cc), (other_if _ _ (λ v l e. cc), (other_if _ _ (λ v l e. cc), tt)))))
-full_other settings h n (change.PutTopic topic body author weight) =
-    (tt, (tt, (other_if _ _ (λ v l e. cc), (other_if _ _ (λ v l e. cc), (other_if _ _ (λ v l e. cc), tt)))))
-full_other settings h n (change.DeleteTopic topic) =
-    (tt, (tt, (other_if _ _ (λ v l e. cc), (other_if _ _ (λ v l e. cc), (other_if _ _ (λ v l e. cc), tt)))))
-full_other settings h n (change.PostComment topic body author weight) =
-    (tt, (tt, (other_if _ _ (λ v l e. cc), (other_if _ _ (λ v l e. cc), (other_if _ _ (λ v l e. cc), tt)))))
-full_other settings h n (change.PutComment topic comment body author weight) =
-    (tt, (tt, (other_if _ _ (λ v l e. cc), (other_if _ _ (λ v l e. cc), (other_if _ _ (λ v l e. cc), tt)))))
-full_other settings h n (change.DeleteComment topic comment) =
-    (tt, (tt, (other_if _ _ (λ v l e. cc), (other_if _ _ (λ v l e. cc), (other_if _ _ (λ v l e. cc), tt)))))
-full_other settings h n (change.PostView topic body weight) =
-    (tt, (tt, (other_if _ _ (λ v l e. cc), (other_if _ _ (λ v l e. cc), (other_if _ _ (λ v l e. cc), tt)))))
-full_other settings h n (change.DeleteView topic view) =
-    (tt, (tt, (other_if _ _ (λ v l e. cc), (other_if _ _ (λ v l e. cc), (other_if _ _ (λ v l e. cc), tt)))))
-full_other settings h n (change.ClashTopic version place author weight) =
-    (tt, (tt, (other_if _ _ (λ v l e. cc), (other_if _ _ (λ v l e. cc), (other_if _ _ (λ v l e. cc), tt)))))
+full_other settings h n _ = (tt, (tt, (other_if _ _ (λ v l e. cc), (other_if _ _ (λ v l e. cc), (other_if _ _ (λ v l e. cc), tt)))))
 
 noted_other : (settings : Settings) (h : List Entry) (n : ℕ) (c : Change) → AreOther (not_noted settings h n c)
-noted_other settings h n (change.Upload name model) =
-    (other_if _ _ (λ v l e. cc), (other_if _ _ (λ v l e. cc), (other_if _ _ (λ v l e. cc), tt)))
-noted_other settings h n (change.Remove name) =
-    (other_if _ _ (λ v l e. cc), (other_if _ _ (λ v l e. cc), (other_if _ _ (λ v l e. cc), tt)))
-noted_other settings h n (change.SetRules rules weight) =
-    (other_if _ _ (λ v l e. cc), (other_if _ _ (λ v l e. cc), (other_if _ _ (λ v l e. cc), tt)))
-noted_other settings h n (change.BucketDone version cell) =
-    (other_if _ _ (λ v l e. cc), (other_if _ _ (λ v l e. cc), (other_if _ _ (λ v l e. cc), tt)))
 noted_other settings h n (change.PostTopic body author weight) =
     (other_if _ _ (λ v l e. cc), (other_if _ _ (λ v l e. cc), (other_if _ _ (λ v l e. cc), (other_if _ _ (λ v l e. cc), tt))))
-noted_other settings h n (change.PutTopic topic body author weight) =
-    (other_if _ _ (λ v l e. cc), (other_if _ _ (λ v l e. cc), (other_if _ _ (λ v l e. cc), tt)))
-noted_other settings h n (change.DeleteTopic topic) =
-    (other_if _ _ (λ v l e. cc), (other_if _ _ (λ v l e. cc), (other_if _ _ (λ v l e. cc), tt)))
 noted_other settings h n (change.PostComment topic body author weight) =
     (other_if _ _ (λ v l e. cc), (other_if _ _ (λ v l e. cc), (other_if _ _ (λ v l e. cc), (other_if _ _ (λ v l e. cc), tt))))
-noted_other settings h n (change.PutComment topic comment body author weight) =
-    (other_if _ _ (λ v l e. cc), (other_if _ _ (λ v l e. cc), (other_if _ _ (λ v l e. cc), tt)))
-noted_other settings h n (change.DeleteComment topic comment) =
-    (other_if _ _ (λ v l e. cc), (other_if _ _ (λ v l e. cc), (other_if _ _ (λ v l e. cc), tt)))
 noted_other settings h n (change.PostView topic body weight) =
     (other_if _ _ (λ v l e. cc), (other_if _ _ (λ v l e. cc), (other_if _ _ (λ v l e. cc), (other_if _ _ (λ v l e. cc), tt))))
-noted_other settings h n (change.DeleteView topic view) =
-    (other_if _ _ (λ v l e. cc), (other_if _ _ (λ v l e. cc), (other_if _ _ (λ v l e. cc), tt)))
 noted_other settings h n (change.ClashTopic version place author weight) =
     (other_if _ _ (λ v l e. cc), (other_if _ _ (λ v l e. cc), (other_if _ _ (λ v l e. cc), (other_if _ _ (λ v l e. cc), (other_if _ _ (λ v l e. cc), tt)))))
+noted_other settings h n _ = (other_if _ _ (λ v l e. cc), (other_if _ _ (λ v l e. cc), (other_if _ _ (λ v l e. cc), tt)))
 
 calm_noted : (settings : Settings) (h : List Entry) (c : Change) (n : ℕ) → IsCalm h (noted settings h n c)
 calm_noted settings h c n =
@@ -339,10 +286,40 @@ calm_body settings h n t sent make =
     calm_found h NoViewpoint (comment_kept n (board_of n h) t sent) (λ b. noted settings h n (make b)) (λ v l e. cc)
     (λ b. calm_noted settings h (make b) n)
 
+-- ---- calls that read, of which the steps to the answer are searched for
+
+-- the fault is that buckets are pending
+abbrev is_pending : BookFault → Bool
+is_pending (Pending version left) = true
+is_pending _ = false
+
+-- what becomes of a request isn't that, as one that is searched for
+record Calm (h : List Entry) (o : Outcome) : Type 0 where
+  is : IsCalm h o
+
+calm_is : (h : List Entry) (o : Outcome) → Calm h o → IsCalm h o
+calm_is h o calm = calm.is
+
+-- one step on the way to an answer: something is found, or refused for another fault
+calm_step : {A : Type 0} (h : List Entry) (fault : BookFault) (o : Option A) (f : A → Outcome) → is_pending fault ≡ false → ((x : A) → Calm h (f x)) → Calm h (found fault o f)
+calm_step h fault o f other calm =
+    record { is = calm_found h fault o f (λ v l e. (let both : true ≡ false = sym (ap is_pending e) ∙ other in cc)) (λ x. (calm x).is) }
+
+-- the answers
+calm_answer : (h : List Entry) (body : ReplyBody) → is_refusal body ≡ false → Calm h (Answer body)
+calm_answer h body told = record { is = λ p. (let both : true ≡ false = sym (ap is_refusal p.2) ∙ told in cc) }
+
+calm_topic_answer : (h : List Entry) (o : Option Topic) → Calm h (Answer (topic_told o))
+calm_topic_answer h o = record { is = calm_topic o }
+
+calm_comment_answer : (h : List Entry) (o : Option Comment) → Calm h (Answer (comment_told o))
+calm_comment_answer h o = record { is = calm_comment o }
+
+calm_view_answer : (h : List Entry) (serial : ℕ) (o : Option ViewBody) → Calm h (Answer (view_told serial o))
+calm_view_answer h serial o = record { is = calm_view serial o }
+
 -- where nothing is left to check, no call is answered so
 calm_call : (settings : Settings) (h : List Entry) (call : BookRequest) → left_all settings.projects h ≡ 0 → IsCalm h (outcome_of settings h call)
-calm_call settings h ListProjects none = λ p. (let e = p.2 in cc)
-calm_call settings h (ReadProject id) none = calm_in h (project_of settings.projects id) _ (λ n is p. let e = p.2 in cc)
 calm_call settings h (Upload id name model) none = calm_in h (project_of settings.projects id) _ (λ n is. calm_changed settings h (change.Upload name model) n)
 calm_call settings h (Remove id name) none =
     calm_in h (project_of settings.projects id) _
@@ -365,15 +342,9 @@ calm_call settings h (ReadClashes id wanted first count) none =
 calm_call settings h (ClashTopic id wanted place author weight) none =
     calm_in h (project_of settings.projects id) _
     (λ n is. let range = project_within settings.projects id n is in calm_clash_topic settings h wanted place author weight n none range.0 range.1)
-calm_call settings h (ListTopics id) none = calm_in h (project_of settings.projects id) _ (λ n is p. let e = p.2 in cc)
-calm_call settings h (ReadTopic id topic) none = calm_topic_of settings h id topic (λ n t. Answer (topic_told (topic_at (board_of n h) t))) (λ n t. calm_topic _)
 calm_call settings h (PostTopic id body author weight) none = calm_in h (project_of settings.projects id) _ (λ n is. calm_noted settings h (change.PostTopic body author weight) n)
 calm_call settings h (PutTopic id topic body author weight) none = calm_noted_of settings h id topic (λ t. change.PutTopic t body author weight)
 calm_call settings h (DeleteTopic id topic) none = calm_noted_of settings h id topic (λ t. change.DeleteTopic t)
-calm_call settings h (ListComments id topic) none =
-    calm_topic_of settings h id topic (λ n t. Answer (reply.CommentList (comments_on t (board_of n h).discussion.comments))) (λ n t. calm_comments _)
-calm_call settings h (ReadComment id topic comment) none =
-    calm_comment_of settings h id topic comment (λ n t c. Answer (comment_told (comment_at (board_of n h) t c))) (λ n t c. calm_comment _)
 calm_call settings h (PostComment id topic body author weight) none =
     calm_topic_of settings h id topic (λ n t. with_body h n t body (λ b. noted settings h n (change.PostComment t b author weight)))
     (λ n t. calm_body settings h n t body (λ b. change.PostComment t b author weight))
@@ -382,14 +353,12 @@ calm_call settings h (PutComment id topic comment body author weight) none =
     (λ n t c. calm_body settings h n t body (λ b. change.PutComment t c b author weight))
 calm_call settings h (DeleteComment id topic comment) none =
     calm_comment_of settings h id topic comment (λ n t c. noted settings h n (change.DeleteComment t c)) (λ n t c. calm_noted settings h (change.DeleteComment t c) n)
-calm_call settings h (ListViews id topic) none = calm_topic_of settings h id topic (λ n t. Answer (reply.ViewList (views_on t (board_of n h).views))) (λ n t. calm_views _)
-calm_call settings h (ReadView id topic view) none =
-    calm_view_of settings h id topic view (λ n t v. Answer (view_told v (view_at (board_of n h) t v))) (λ n t v. calm_view v _)
 calm_call settings h (PostView id topic body weight) none = calm_noted_of settings h id topic (λ t. change.PostView t body weight)
 calm_call settings h (DeleteView id topic view) none =
     calm_view_of settings h id topic view (λ n t v. noted settings h n (change.DeleteView t v)) (λ n t v. calm_noted settings h (change.DeleteView t v) n)
 calm_call settings h (TakeWork seat) none = calm_order h (all_orders settings.projects h) seat
 calm_call settings h (Finish set) none = calm_finish h set
+calm_call settings h call none = calm_is h (outcome_of settings h call) (search (calm_step, calm_answer, calm_topic_answer, calm_comment_answer, calm_view_answer))
 
 -- ---- steps
 

@@ -91,32 +91,22 @@ Stays old new =
 
 -- ---- how a talk goes on
 
--- a call asks for a change
+-- a call asks for a change: these do, and all others read
 abbrev pub asks_change : BookRequest → Bool
-asks_change request.ListProjects = false
-asks_change (request.ReadProject project) = false
 asks_change (request.Upload project name model) = true
 asks_change (request.Remove project name) = true
 asks_change (request.SetRules project rules weight) = true
-asks_change (request.ReadVersion project version) = false
-asks_change (request.ReadClashes project version first count) = false
 asks_change (request.ClashTopic project version place author weight) = true
-asks_change (request.ListTopics project) = false
-asks_change (request.ReadTopic project topic) = false
 asks_change (request.PostTopic project body author weight) = true
 asks_change (request.PutTopic project topic body author weight) = true
 asks_change (request.DeleteTopic project topic) = true
-asks_change (request.ListComments project topic) = false
-asks_change (request.ReadComment project topic comment) = false
 asks_change (request.PostComment project topic body author weight) = true
 asks_change (request.PutComment project topic comment body author weight) = true
 asks_change (request.DeleteComment project topic comment) = true
-asks_change (request.ListViews project topic) = false
-asks_change (request.ReadView project topic view) = false
 asks_change (request.PostView project topic body weight) = true
 asks_change (request.DeleteView project topic view) = true
-asks_change (request.TakeWork seat) = false
 asks_change (request.Finish set) = true
+asks_change _ = false
 
 -- what the response to the request of this number needs of it, whose call asks for a change or not, and for the
 -- clashes of the project of this number or of none

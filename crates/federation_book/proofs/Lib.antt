@@ -16,7 +16,6 @@ pub mod Outcomes
 pub mod Changing
 pub mod Finding
 pub mod Noted
-pub mod Subjects
 pub mod Counted
 pub mod Clashing
 pub mod Applied

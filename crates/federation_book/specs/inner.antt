@@ -2,4 +2,3 @@ pub mod AnyTime
 pub mod Done
 pub mod NextVersions
 pub mod Noting
-pub mod RequestSubjects

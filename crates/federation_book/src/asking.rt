@@ -1,11 +1,10 @@
-//! Each request by what it is about.
+//! What is done with each request.
 ghost use Rattle.std.specs.Prelude.{◌≡◌, IfOk, OnErr};
 ghost use Rattle.book_history.specs.History.{IsBefore};
 ghost use Rattle.book_history.specs.Requests.{outcome_of};
 ghost use Rattle.book_history.specs.Legal.{IsLegal};
 ghost use Rattle.federation_book.specs.KeptProjects.{IsKept, settings_of};
 ghost use Rattle.federation_book.specs.inner.Done.{IsDone};
-ghost use Rattle.federation_book.specs.inner.RequestSubjects.{subject_of};
 
 use crate::clash_topics::clash_topic;
 use crate::comment_requests::{
@@ -15,7 +14,6 @@ use crate::making::{remove, set_rules, upload};
 use crate::project_reads::{project_of, read_clashes, read_version};
 use crate::projects::{list_projects, read_project};
 use crate::state::State;
-use crate::subject::{Subject, subject_of};
 use crate::topic_requests::{delete_topic, list_topics, post_topic, put_topic, read_topic};
 use crate::viewpoint_requests::{delete_view, list_views, post_view, read_view};
 use crate::working::{finish, take_work};
@@ -23,6 +21,7 @@ use book_history::{BookRequest, ReplyBody, Stamp};
 use std::alloc::AllocError;
 
 /// Answers a request by all that is kept.
+#[tactic(auto, using(crate::proofs::Acting::told_as, crate::proofs::Acting::done_as))]
 pub fn act_on(
     state: &mut State,
     stamp: Stamp,
@@ -37,55 +36,10 @@ pub fn act_on(
     ensures kept { IsKept state.new }
     ensures err { OnErr result (state.new.entries.items ≡ state.old.entries.items) }
 {
-    match subject_of(&request) {
-        Subject::Projects => act_on_projects(state, stamp, request),
-        Subject::Versions => act_on_versions(state, stamp, request),
-        Subject::Topics => act_on_topics(state, stamp, request),
-        Subject::Comments => act_on_comments(state, stamp, request),
-        Subject::Views => act_on_views(state, stamp, request),
-        Subject::Work => act_on_work(state, stamp, request),
-    }
-}
-
-// Those about projects.
-fn act_on_projects(
-    state: &mut State,
-    stamp: Stamp,
-    request: BookRequest,
-) -> Result<ReplyBody, AllocError>
-    requires kept { IsKept state.old }
-    requires after { IsBefore stamp.turn state.old.entries.items }
-    requires subject { subject_of request ≡ Subject.Projects }
-    ensures done { IfOk result (IsDone state.old.entries.items state.new.entries.items stamp
-        (outcome_of (settings_of state.old) state.old.entries.items request)) }
-    ensures settings { settings_of state.new ≡ settings_of state.old }
-    ensures kept { IsKept state.new }
-    ensures err { OnErr result (state.new.entries.items ≡ state.old.entries.items) }
-{
+    let count = state.projects.len();
     match request {
         BookRequest::ListProjects => list_projects(state),
         BookRequest::ReadProject { project } => read_project(state, project),
-        _ => unreachable!(),
-    }
-}
-
-// Those about versions.
-fn act_on_versions(
-    state: &mut State,
-    stamp: Stamp,
-    request: BookRequest,
-) -> Result<ReplyBody, AllocError>
-    requires kept { IsKept state.old }
-    requires after { IsBefore stamp.turn state.old.entries.items }
-    requires subject { subject_of request ≡ Subject.Versions }
-    ensures done { IfOk result (IsDone state.old.entries.items state.new.entries.items stamp
-        (outcome_of (settings_of state.old) state.old.entries.items request)) }
-    ensures settings { settings_of state.new ≡ settings_of state.old }
-    ensures kept { IsKept state.new }
-    ensures err { OnErr result (state.new.entries.items ≡ state.old.entries.items) }
-{
-    let count = state.projects.len();
-    match request {
         BookRequest::Upload {
             project,
             name,
@@ -108,26 +62,6 @@ fn act_on_versions(
             first,
             count: pairs,
         } => read_clashes(state, project_of(count, project), version, first, pairs),
-        _ => unreachable!(),
-    }
-}
-
-// Those about topics.
-fn act_on_topics(
-    state: &mut State,
-    stamp: Stamp,
-    request: BookRequest,
-) -> Result<ReplyBody, AllocError>
-    requires kept { IsKept state.old }
-    requires after { IsBefore stamp.turn state.old.entries.items }
-    requires subject { subject_of request ≡ Subject.Topics }
-    ensures done { IfOk result (IsDone state.old.entries.items state.new.entries.items stamp
-        (outcome_of (settings_of state.old) state.old.entries.items request)) }
-    ensures settings { settings_of state.new ≡ settings_of state.old }
-    ensures kept { IsKept state.new }
-    ensures err { OnErr result (state.new.entries.items ≡ state.old.entries.items) }
-{
-    match request {
         BookRequest::ClashTopic {
             project,
             version,
@@ -151,26 +85,6 @@ fn act_on_topics(
             weight,
         } => put_topic(state, stamp, project, topic, body, author, weight),
         BookRequest::DeleteTopic { project, topic } => delete_topic(state, stamp, project, topic),
-        _ => unreachable!(),
-    }
-}
-
-// Those about comments.
-fn act_on_comments(
-    state: &mut State,
-    stamp: Stamp,
-    request: BookRequest,
-) -> Result<ReplyBody, AllocError>
-    requires kept { IsKept state.old }
-    requires after { IsBefore stamp.turn state.old.entries.items }
-    requires subject { subject_of request ≡ Subject.Comments }
-    ensures done { IfOk result (IsDone state.old.entries.items state.new.entries.items stamp
-        (outcome_of (settings_of state.old) state.old.entries.items request)) }
-    ensures settings { settings_of state.new ≡ settings_of state.old }
-    ensures kept { IsKept state.new }
-    ensures err { OnErr result (state.new.entries.items ≡ state.old.entries.items) }
-{
-    match request {
         BookRequest::ListComments { project, topic } => list_comments(state, project, topic),
         BookRequest::ReadComment {
             project,
@@ -197,26 +111,6 @@ fn act_on_comments(
             topic,
             comment,
         } => delete_comment(state, stamp, project, topic, comment),
-        _ => unreachable!(),
-    }
-}
-
-// Those about viewpoints.
-fn act_on_views(
-    state: &mut State,
-    stamp: Stamp,
-    request: BookRequest,
-) -> Result<ReplyBody, AllocError>
-    requires kept { IsKept state.old }
-    requires after { IsBefore stamp.turn state.old.entries.items }
-    requires subject { subject_of request ≡ Subject.Views }
-    ensures done { IfOk result (IsDone state.old.entries.items state.new.entries.items stamp
-        (outcome_of (settings_of state.old) state.old.entries.items request)) }
-    ensures settings { settings_of state.new ≡ settings_of state.old }
-    ensures kept { IsKept state.new }
-    ensures err { OnErr result (state.new.entries.items ≡ state.old.entries.items) }
-{
-    match request {
         BookRequest::ListViews { project, topic } => list_views(state, project, topic),
         BookRequest::ReadView {
             project,
@@ -234,29 +128,7 @@ fn act_on_views(
             topic,
             view,
         } => delete_view(state, stamp, project, topic, view),
-        _ => unreachable!(),
-    }
-}
-
-// Those about buckets to be checked.
-fn act_on_work(
-    state: &mut State,
-    stamp: Stamp,
-    request: BookRequest,
-) -> Result<ReplyBody, AllocError>
-    requires kept { IsKept state.old }
-    requires after { IsBefore stamp.turn state.old.entries.items }
-    requires subject { subject_of request ≡ Subject.Work }
-    requires legal { IsLegal (settings_of state.old) state.old.entries.items request }
-    ensures done { IfOk result (IsDone state.old.entries.items state.new.entries.items stamp
-        (outcome_of (settings_of state.old) state.old.entries.items request)) }
-    ensures settings { settings_of state.new ≡ settings_of state.old }
-    ensures kept { IsKept state.new }
-    ensures err { OnErr result (state.new.entries.items ≡ state.old.entries.items) }
-{
-    match request {
         BookRequest::TakeWork { seat } => take_work(state, seat),
         BookRequest::Finish { set } => finish(state, stamp, set),
-        _ => unreachable!(),
     }
 }

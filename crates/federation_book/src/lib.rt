@@ -13,7 +13,6 @@ mod projects;
 mod quotas;
 mod sequence;
 mod state;
-mod subject;
 mod topic_requests;
 mod version;
 mod viewpoint_requests;

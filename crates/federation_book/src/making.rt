@@ -123,13 +123,12 @@ fn make_version(
     let project = &mut state.projects[number as usize - 1];
     project.live.reserve(1)?;
     project.push_version(version);
-    state.triangles += triangles;
-    state.text += text;
-    state.entries.push_reserved(Entry {
+    let entry = Entry {
         stamp,
         project: number,
         change,
-    });
+    };
+    state.append(entry, triangles, text);
     Ok(None)
 }
 

@@ -157,12 +157,12 @@ pub fn note(
     let project = &mut state.projects[number as usize - 1];
     match apply(&mut project.board, alloc, &change, pair) {
         Ok(body) => {
-            state.text += weight;
-            state.entries.push_reserved(Entry {
+            let entry = Entry {
                 stamp,
                 project: number,
                 change,
-            });
+            };
+            state.append(entry, 0, weight);
             Ok(body)
         }
         Err(error) => {

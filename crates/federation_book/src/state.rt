@@ -1,5 +1,5 @@
 //! All that the book keeps.
-ghost use Rattle.std.specs.Prelude.{◌≡◌, ◌≤◌, ℕ, if◌then◌else◌, nat_le, length, sum_by, IfSome};
+ghost use Rattle.std.specs.Prelude.{◌≡◌, ◌≤◌, ◌<◌, ◌+◌, ◌^◌, ◌++◌, [], ◌∷◌, ℕ, if◌then◌else◌, nat_le, length, sum_by, vec_len, vec_capacity, IfSome};
 ghost use Rattle.book_history.specs.declared.changes.Change.{Change};
 ghost use Rattle.book_history.specs.Versions.{live_in};
 ghost use Rattle.book_history.specs.Projects.{with_change};
@@ -185,5 +185,22 @@ impl State {
             return Some(fault);
         }
         self.journal_full(number, left)
+    }
+
+    /// Adds an accepted change to the journal, which has room for it, and to the sums: so many triangles and bytes of
+    /// texts come by it. Its project is changed before.
+    pub fn append(&mut self, entry: Entry, triangles: u64, text: u64)
+        requires room { vec_len self.old.entries < vec_capacity self.old.entries }
+        requires triangles { self.old.triangles + triangles < 2 ^ 64 }
+        requires text { self.old.text + text < 2 ^ 64 }
+        ensures entries { self.new.entries.items ≡ self.old.entries.items ++ entry ∷ [] }
+        ensures triangles { self.new.triangles ≡ self.old.triangles + triangles }
+        ensures text { self.new.text ≡ self.old.text + text }
+        ensures projects { self.new.projects ≡ self.old.projects }
+        ensures limits { self.new.limits ≡ self.old.limits }
+    {
+        self.triangles += triangles;
+        self.text += text;
+        self.entries.push_reserved(entry);
     }
 }

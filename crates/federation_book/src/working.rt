@@ -11,7 +11,7 @@ use crate::project::{Project, left_in};
 use crate::project_reads::{dropped, place_of};
 use crate::state::State;
 use crate::version::know_grid;
-use bim_model::Shared;
+use bim_model::{Shared, know};
 use book_history::{BookFault, Change, Entry, ReplyBody, Stamp, WorkOrder};
 use bucket_check::BucketSet;
 use std::alloc::AllocError;
@@ -90,10 +90,13 @@ pub fn finish(
     state.entries.reserve(1)?;
     let project = &mut state.projects[number as usize - 1];
     let left = project.live[place].put(set);
-    state.entries.push_reserved(Entry {
+    let entry = Entry {
         stamp,
         project: number,
         change: Change::BucketDone { version, cell },
-    });
+    };
+    know(state.triangles);
+    know(state.text);
+    state.append(entry, 0, 0);
     Ok(ReplyBody::Finished { left })
 }

@@ -11,24 +11,20 @@ use Rattle.book_history.specs.declared.changes.Change.{Change}
 use Rattle.book_history.specs.declared.changes.Change.TheVariants as change
 use Rattle.bcf_topics.specs.declared.topic.Topic.{Topic}
 use Rattle.bcf_topics.specs.declared.comment.Comment.{Comment}
-use Rattle.bcf_topics.specs.Comments.{comments_on}
-use Rattle.bcf_viewpoints.specs.Viewpoints.{views_on}
-use Rattle.book_topics.specs.Boards.{topic_at, comment_at, view_at}
-use Rattle.book_topics.specs.TopicIdentifiers.{topic_named, comment_named, view_named}
 use Rattle.book_history.specs.declared.book_fault.BookFault.{BookFault}
-use Rattle.book_history.specs.declared.book_fault.BookFault.TheVariants.{NoTopic, NoComment, NoViewpoint}
+use Rattle.book_history.specs.declared.book_fault.BookFault.TheVariants.{NoProject}
 use Rattle.book_history.specs.declared.replies.ReplyBody.{ReplyBody}
 use Rattle.book_history.specs.declared.replies.ReplyBody.TheVariants as reply
 use Rattle.book_history.specs.declared.requests.Wanted.{Wanted}
 use Rattle.book_history.specs.declared.replies.BookReply.{BookReply}
 use Rattle.book_history.specs.declared.requests.BookRequest.{BookRequest}
-use Rattle.book_history.specs.declared.requests.BookRequest.TheVariants.{ListProjects, ReadProject, Upload, Remove, SetRules, ReadVersion, ReadClashes, ClashTopic, ListTopics, ReadTopic, PostTopic, PutTopic, DeleteTopic, ListComments, ReadComment, PostComment, PutComment, DeleteComment, ListViews, ReadView, PostView, DeleteView, TakeWork, Finish}
+use Rattle.book_history.specs.declared.requests.BookRequest.TheVariants.{ReadVersion, ReadClashes, TakeWork}
 use Rattle.book_history.specs.Orders.{OrderValue}
 use Rattle.book_history.specs.Versions.{VersionState, version_at}
 use Rattle.book_history.specs.Projects.{ProjectState, newest, with_change}
-use Rattle.book_history.specs.History.{state_of, board_of, at_turn, of_turn}
+use Rattle.book_history.specs.History.{state_of, at_turn, of_turn}
 use Rattle.book_history.specs.Refusals.{project_of, wanted_in, not_yet, dropped, pending}
-use Rattle.book_history.specs.Requests.{Outcome, Refusal, Answer, Accepted, unless, found, in_project, in_topic, in_comment, in_view, topic_told, comment_told, view_told, order_for, all_orders, version_read, clashes_read, outcome_of, reply_to, body_of, entry_by, reply_of, added_by}
+use Rattle.book_history.specs.Requests.{Outcome, Refusal, Answer, Accepted, unless, found, topic_told, comment_told, order_for, all_orders, version_read, clashes_read, outcome_of, reply_to, body_of, entry_by, reply_of, added_by}
 use Rattle.book_history.specs.Runs.{Step}
 use Rattle.book_history.proofs.Histories.{AreOf, AreAbove, added_of, before_all, at_turn-new, of_turn-new}
 use Rattle.bcf_http.specs.declared.answers.Answer.TheVariants as answer
@@ -90,19 +86,10 @@ comment_unrefused None is = cc
 comment_unrefused (Some comment) is = cc
 
 never_refused : (before after : ProjectState) (c : Change) → IsTrue (is_refusal (reply_to before c after)) → ⊥
-never_refused before after (change.PostTopic body author weight) is = cc
-never_refused before after (change.Upload name model) is = cc
-never_refused before after (change.Remove name) is = cc
-never_refused before after (change.SetRules rules weight) is = cc
-never_refused before after (change.BucketDone version cell) is = cc
 never_refused before after (change.PutTopic topic body author weight) is = topic_unrefused _ is
-never_refused before after (change.DeleteTopic topic) is = cc
-never_refused before after (change.PostComment topic body author weight) is = cc
 never_refused before after (change.PutComment topic comment body author weight) is = comment_unrefused _ is
-never_refused before after (change.DeleteComment topic comment) is = cc
-never_refused before after (change.PostView topic body weight) is = cc
-never_refused before after (change.DeleteView topic view) is = cc
 never_refused before after (change.ClashTopic version place author weight) is = topic_unrefused _ is
+never_refused before after _ is = cc
 
 refused_idle : (h : List Entry) (o : Outcome) → IsTrue (is_refusal (body_of h o)) → IsIdle o
 refused_idle h (Refusal fault) is = tt
@@ -113,10 +100,6 @@ idle_unless : (refusals : List (Option BookFault)) (body : ReplyBody) → IsIdle
 idle_unless [] body = tt
 idle_unless (Some fault ∷ refusals) body = tt
 idle_unless (None ∷ refusals) body = idle_unless refusals body
-
-idle_in : (o : Option ℕ) (f : ℕ → Outcome) → ((n : ℕ) → IsIdle (f n)) → IsIdle (in_project o f)
-idle_in None f idle = tt
-idle_in (Some n) f idle = idle n
 
 idle_found : {A : Type 0} (fault : BookFault) (o : Option A) (f : A → Outcome) → ((x : A) → IsIdle (f x)) → IsIdle (found fault o f)
 idle_found fault None f idle = tt
@@ -139,53 +122,13 @@ clashes_idle h wanted first count n =
     let version : VersionState = version_at project.versions v in
     idle_unless (not_yet project v ∷ dropped project v ∷ pending v version ∷ []) (reply.Clashes v version.content first count)
 
--- a comment that is read, a viewpoint
-abbrev comment_read : List Entry → ℕ → ℕ → ℕ → Outcome
-comment_read h n t c = Answer (comment_told (comment_at (board_of n h) t c))
-
-abbrev view_read : List Entry → ℕ → ℕ → ℕ → Outcome
-view_read h n t v = Answer (view_told v (view_at (board_of n h) t v))
-
--- what a topic answers
-idle_topic : (settings : Settings) (h : List Entry) (id topic : ℕ) (f : ℕ → ℕ → Outcome) → ((n t : ℕ) → IsIdle (f n t))
-    → IsIdle (in_project (project_of settings.projects id) (λ n. in_topic h n topic (f n)))
-idle_topic settings h id topic f idle =
-    idle_in (project_of settings.projects id) (λ n. in_topic h n topic (f n))
-    (λ n. idle_found NoTopic (topic_named n (board_of n h) topic) (f n) (idle n))
-
--- a call that asks for no change
+-- a call that asks for no change: each step on the way to its answer refuses or goes on
 reads_idle : (settings : Settings) (h : List Entry) (call : BookRequest) → asks_change call ≡ false → IsIdle (outcome_of settings h call)
-reads_idle settings h ListProjects reads = tt
-reads_idle settings h (ReadProject id) reads = idle_in (project_of settings.projects id) _ (λ n. tt)
-reads_idle settings h (Upload id name model) reads = cc
-reads_idle settings h (Remove id name) reads = cc
-reads_idle settings h (SetRules id rules weight) reads = cc
-reads_idle settings h (ReadVersion id wanted) reads = idle_in (project_of settings.projects id) (version_read h wanted) (λ n. version_idle h wanted n)
+reads_idle settings h (ReadVersion id wanted) reads = idle_found NoProject (project_of settings.projects id) (version_read h wanted) (λ n. version_idle h wanted n)
 reads_idle settings h (ReadClashes id wanted first count) reads =
-    idle_in (project_of settings.projects id) (clashes_read h wanted first count) (λ n. clashes_idle h wanted first count n)
-reads_idle settings h (ClashTopic id wanted place author weight) reads = cc
-reads_idle settings h (ListTopics id) reads = idle_in (project_of settings.projects id) _ (λ n. tt)
-reads_idle settings h (ReadTopic id topic) reads = idle_topic settings h id topic (λ n t. Answer (topic_told (topic_at (board_of n h) t))) (λ n t. tt)
-reads_idle settings h (PostTopic id body author weight) reads = cc
-reads_idle settings h (PutTopic id topic body author weight) reads = cc
-reads_idle settings h (DeleteTopic id topic) reads = cc
-reads_idle settings h (ListComments id topic) reads =
-    idle_topic settings h id topic (λ n t. Answer (reply.CommentList (comments_on t (board_of n h).discussion.comments))) (λ n t. tt)
-reads_idle settings h (ReadComment id topic comment) reads =
-    idle_topic settings h id topic (λ n t. in_comment h n t comment (comment_read h n t))
-    (λ n t. idle_found NoComment (comment_named n (board_of n h) t comment) (comment_read h n t) (λ c. tt))
-reads_idle settings h (PostComment id topic body author weight) reads = cc
-reads_idle settings h (PutComment id topic comment body author weight) reads = cc
-reads_idle settings h (DeleteComment id topic comment) reads = cc
-reads_idle settings h (ListViews id topic) reads =
-    idle_topic settings h id topic (λ n t. Answer (reply.ViewList (views_on t (board_of n h).views))) (λ n t. tt)
-reads_idle settings h (ReadView id topic view) reads =
-    idle_topic settings h id topic (λ n t. in_view h n t view (view_read h n t))
-    (λ n t. idle_found NoViewpoint (view_named n (board_of n h) t view) (view_read h n t) (λ v. tt))
-reads_idle settings h (PostView id topic body weight) reads = cc
-reads_idle settings h (DeleteView id topic view) reads = cc
+    idle_found NoProject (project_of settings.projects id) (clashes_read h wanted first count) (λ n. clashes_idle h wanted first count n)
 reads_idle settings h (TakeWork seat) reads = idle_order h (all_orders settings.projects h) seat
-reads_idle settings h (Finish set) reads = cc
+reads_idle settings h _ reads = first_of (cc, search idle_found)
 
 nothing_idle : (settings : Settings) (h : List Entry) (call : BookRequest) (asks : Bool) → asks_change call ≡ asks
     → IsTrue (changes_nothing asks (body_of h (outcome_of settings h call))) → IsIdle (outcome_of settings h call)

@@ -10,7 +10,7 @@ use Rattle.book_history.specs.declared.changes.Entry.{Entry}
 use Rattle.book_history.specs.declared.replies.BookReply.{BookReply}
 use Rattle.book_history.specs.declared.replies.ReplyBody.TheVariants.{Work}
 use Rattle.book_history.specs.declared.requests.BookRequest.{BookRequest}
-use Rattle.book_history.specs.declared.requests.BookRequest.TheVariants.{ListProjects, ReadProject, Upload, Remove, SetRules, ReadVersion, ReadClashes, ClashTopic, ListTopics, ReadTopic, PostTopic, PutTopic, DeleteTopic, ListComments, ReadComment, PostComment, PutComment, DeleteComment, ListViews, ReadView, PostView, DeleteView, TakeWork, Finish}
+use Rattle.book_history.specs.declared.requests.BookRequest.TheVariants.{TakeWork, Finish}
 use Rattle.book_history.specs.Orders.{OrderValue, order_of}
 use Rattle.book_history.specs.Versions.{VersionState, live_in, first_live}
 use Rattle.book_history.specs.History.{state_of, left_in, live_of, project_numbers}
@@ -25,30 +25,8 @@ use Rattle.server_commands.specs.inner.BucketWork.{GivesOut}
 
 -- a call that brings no set may be made at every history
 pub legal_of : (settings : Settings) (h : List Entry) (call : BookRequest) → BringsNone call → IsLegal settings h call
-legal_of settings h ListProjects none = tt
-legal_of settings h (ReadProject id) none = tt
-legal_of settings h (Upload id name model) none = tt
-legal_of settings h (Remove id name) none = tt
-legal_of settings h (SetRules id rules weight) none = tt
-legal_of settings h (ReadVersion id wanted) none = tt
-legal_of settings h (ReadClashes id wanted first count) none = tt
-legal_of settings h (ClashTopic id wanted place author weight) none = tt
-legal_of settings h (ListTopics id) none = tt
-legal_of settings h (ReadTopic id topic) none = tt
-legal_of settings h (PostTopic id body author weight) none = tt
-legal_of settings h (PutTopic id topic body author weight) none = tt
-legal_of settings h (DeleteTopic id topic) none = tt
-legal_of settings h (ListComments id topic) none = tt
-legal_of settings h (ReadComment id topic comment) none = tt
-legal_of settings h (PostComment id topic body author weight) none = tt
-legal_of settings h (PutComment id topic comment body author weight) none = tt
-legal_of settings h (DeleteComment id topic comment) none = tt
-legal_of settings h (ListViews id topic) none = tt
-legal_of settings h (ReadView id topic view) none = tt
-legal_of settings h (PostView id topic body weight) none = tt
-legal_of settings h (DeleteView id topic view) none = tt
-legal_of settings h (TakeWork seat) none = tt
 legal_of settings h (Finish set) none = absurd (none set refl)
+legal_of settings h _ none = tt
 
 -- ---- as many orders as buckets are left
 

@@ -84,8 +84,8 @@ push_version-requires-clause-number c =
     let most = c.requires.kept.within.journal in
     omega (arith, newest, few, room, most)
 
-pub overflow_add-state : goal.overflow_add-state
-overflow_add-state c =
+pub append-requires-clause-triangles : goal.append-requires-clause-triangles
+append-requires-clause-triangles c =
     let old = c.args.state.now in
     let j = old.entries.items in
     let n = c.args.number in
@@ -104,8 +104,8 @@ overflow_add-state c =
     let more = c.requires.triangles in
     omega (arith, room, sum, most, more)
 
-pub overflow_add-state-2 : goal.overflow_add-state-2
-overflow_add-state-2 c =
+pub append-requires-clause-text : goal.append-requires-clause-text
+append-requires-clause-text c =
     let old = c.args.state.now in
     let j = old.entries.items in
     let n = c.args.number in
@@ -158,13 +158,12 @@ returns-clause-kept c =
     let l : KeepsProject q s = kept_numbered old.projects.items j n q c.requires.kept.states c.requires.low c.requires.high c.index_mut-project.ensures.value in
     let live = c.push_version.ensures.live ∙ ap (λ vs. live_in (vs ++ v ∷ [])) c.in_ok-reserve-2.ensures.items in
     let keeps = keeps_then p s c.args.change before v c.args.snapshot k (within n j).some c.newest_version-before.ensures is.1 c.requires.next q r l live c.push_version.ensures.newest c.push_version.ensures.board in
-    let after : State = record { limits = old.limits; projects = with_item old.projects (n - 1) r; entries = c.push_reserved.new.self; triangles = old.triangles + c.args.triangles; text = old.text + c.args.text } in
     let e : Entry = entry_of c.args.stamp n c.args.change in
-    let pushed : c.push_reserved.new.self.items ≡ j ++ e ∷ [] = c.push_reserved.ensures.items ∙ ap (λ es. es ++ e ∷ []) c.in_ok-reserve.ensures.items in
+    let pushed : c.append.new.self.entries.items ≡ j ++ e ∷ [] = c.append.ensures.entries ∙ ap (λ es. es ++ e ∷ []) c.in_ok-reserve.ensures.items in
     let room = text_room old.limits j (text_of c.args.change) none.second in
     let most = c.requires.kept.within.text in
     let told_text = c.requires.text in
     let text : c.args.text ≡ text_of c.args.change = omega (arith, room, most, told_text) in
-    kept_after old after e r c.requires.kept c.requires.after c.requires.low c.requires.high keeps refl pushed
-    (ap (λ m. old.triangles + m) c.requires.triangles) (ap (λ m. old.text + m) text) refl
+    kept_after old c.append.new.self e r c.requires.kept c.requires.after c.requires.low c.requires.high keeps (ap (λ ps. ps.items) c.append.ensures.projects) pushed
+    (c.append.ensures.triangles ∙ ap (λ m. old.triangles + m) c.requires.triangles) (c.append.ensures.text ∙ ap (λ m. old.text + m) text) c.append.ensures.limits
     (journal_room (settings_of old) j (left_after (length old.projects.items) j n c.args.change) none.third)

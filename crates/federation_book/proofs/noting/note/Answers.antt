@@ -60,8 +60,8 @@ returns-in-Err-apply-clause-kept c =
     let keeps : KeepsProject asked (state_of n h) = record { board = c.in-Err-apply.ensures.err ∙ l.board; newest = l.newest; live = l.live } in
     kept_asked old after n asked c.requires.kept c.requires.low c.requires.high keeps refl c.reserve.ensures.items refl refl refl
 
-pub overflow_add-state : goal.overflow_add-state
-overflow_add-state c =
+pub append-requires-clause-text : goal.append-requires-clause-text
+append-requires-clause-text c =
     let old = c.args.state.now in
     let h = old.entries.items in
     let none = store_none (settings_of old) h c.args.number c.args.change (sym c.not_noted.ensures ∙ c.in_default.is) in
@@ -79,8 +79,8 @@ returns-in-Ok-clause-done c =
     let q = c.index_mut-project.result.now in
     let l : KeepsProject q (state_of n h) = kept_numbered old.projects.items h n q c.requires.kept.states c.requires.low c.requires.high c.index_mut-project.ensures.value in
     let e : Entry = entry_of c.args.stamp n c.args.change in
-    let pushed : c.push_reserved.new.self.items ≡ h ++ e ∷ [] = c.push_reserved.ensures.items ∙ ap (λ es. es ++ e ∷ []) c.reserve.ensures.items in
-    noted_done (settings_of old) h c.push_reserved.new.self.items c.args.stamp n c.args.change c.args.pair q.board c.apply.new.board c.in-Ok.body
+    let pushed : c.append.new.self.entries.items ≡ h ++ e ∷ [] = c.append.ensures.entries ∙ ap (λ es. es ++ e ∷ []) c.reserve.ensures.items in
+    noted_done (settings_of old) h c.append.new.self.entries.items c.args.stamp n c.args.change c.args.pair q.board c.apply.new.board c.in-Ok.body
     (sym c.not_noted.ensures ∙ c.in_default.is) c.in-Ok.ensures.ok l.board c.requires.pair pushed
 
 pub returns-in-Ok-clause-kept : goal.returns-in-Ok-clause-kept
@@ -95,10 +95,10 @@ returns-in-Ok-clause-kept c =
     let note = fits_note (board_of n h) c.args.pair change c.requires.fits in
     let none = store_none (settings_of old) h n change (sym c.not_noted.ensures ∙ c.in_default.is) in
     let made : Project = record { board = c.apply.new.board; newest = q.newest; live = q.live } in
-    let after : State = record { limits = old.limits; projects = with_item old.projects (n - 1) made; entries = c.push_reserved.new.self; triangles = old.triangles; text = old.text + c.args.weight } in
     let e : Entry = entry_of c.args.stamp n change in
-    let pushed : c.push_reserved.new.self.items ≡ h ++ e ∷ [] = c.push_reserved.ensures.items ∙ ap (λ es. es ++ e ∷ []) c.reserve.ensures.items in
+    let pushed : c.append.new.self.entries.items ≡ h ++ e ∷ [] = c.append.ensures.entries ∙ ap (λ es. es ++ e ∷ []) c.reserve.ensures.items in
     let keeps : KeepsProject made (with_change s change) = noted_keeps q s change made l note (c.in-Ok.ensures.ok.board s (sym l.board) c.requires.pair) refl refl in
     let zero = no_triangles change note in
-    kept_after old after e made c.requires.kept c.requires.after c.requires.low c.requires.high keeps refl pushed (omega (arith, zero)) (ap (λ m. old.text + m) c.requires.weight) refl
+    kept_after old c.append.new.self e made c.requires.kept c.requires.after c.requires.low c.requires.high keeps (ap (λ ps. ps.items) c.append.ensures.projects) pushed
+    (c.append.ensures.triangles ∙ ap (λ m. old.triangles + m) zero) (c.append.ensures.text ∙ ap (λ m. old.text + m) c.requires.weight) c.append.ensures.limits
     (journal_room (settings_of old) h (left_after (settings_of old).projects h n change) none.third)

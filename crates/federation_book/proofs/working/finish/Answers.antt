@@ -1,4 +1,4 @@
-use Rattle.std.proofs.Common.{◌≡◌, ◌+◌, ◌-◌, ◌<◌, ◌++◌, true, false, [], ◌∷◌, length, Some, None, refl, sym, ◌∙◌, ap, subst, arith}
+use Rattle.std.proofs.Common.{◌≡◌, ◌+◌, ◌-◌, ◌<◌, ◌++◌, true, false, [], ◌∷◌, length, Some, None, refl, sym, ◌∙◌, ap, ap₂, subst, arith}
 use Rattle.std.specs.Vec.{with_item}
 use Rattle.std.proofs.lemmas.List.{length-set}
 use Rattle.bucket_grid.specs.declared.cell.Cell.{Cell}
@@ -190,16 +190,17 @@ returns-clause-added c =
     let live = not_dropped p s w.version k none in
     let first = placed p s w.version c.place_of-place.result k made live c.place_of-place.ensures in
     let open_ : false ≡ is_done (version_at s.versions w.version) w.cell = sym c.if-is_done.false ∙ c.is_done.ensures ∙ ap (λ v. is_done v w.cell) (c.index.ensures ∙ first.is c.index.result.now) in
-    let pushed : c.push_reserved.new.self.items ≡ h ++ entry_of c.args.stamp w.project (BucketDone w.version w.cell) ∷ [] =
-    c.push_reserved.ensures.items ∙ ap (λ es. es ++ entry_of c.args.stamp w.project (BucketDone w.version w.cell) ∷ []) c.in_ok-reserve.ensures.items in
-    subst (λ (x : BucketWork). c.push_reserved.new.self.items ≡ h ++ entry_of c.args.stamp x.project (BucketDone x.version x.cell) ∷ []) is pushed
+    let pushed : c.append.new.self.entries.items ≡ h ++ entry_of c.args.stamp w.project (BucketDone w.version w.cell) ∷ [] =
+    c.append.ensures.entries ∙ ap (λ es. es ++ entry_of c.args.stamp w.project (BucketDone w.version w.cell) ∷ []) c.in_ok-reserve.ensures.items in
+    subst (λ (x : BucketWork). c.append.new.self.entries.items ≡ h ++ entry_of c.args.stamp x.project (BucketDone x.version x.cell) ∷ []) is pushed
     ∙ ap (λ o. h ++ listed (entry_by c.args.stamp o)) (sym (finish_taken h c.args.set
     (subst (λ (x : BucketWork). None ≡ dropped (state_of x.project h) x.version) is none)
     (subst (λ (x : BucketWork). false ≡ is_done (version_at (state_of x.project h).versions x.version) x.cell) is open_)))
 
 pub returns-clause-settings : goal.returns-clause-settings
 returns-clause-settings c =
-    ap (λ m. (let r : Settings = record { projects = m; limits = c.args.state.now.limits } in r)) (length-set c.args.state.now.projects.items (c.work-work.result.now.project - 1) _)
+    ap₂ (λ m l. (let r : Settings = record { projects = m; limits = l } in r))
+    (ap (λ ps. length ps.items) c.append.ensures.projects ∙ length-set c.args.state.now.projects.items (c.work-work.result.now.project - 1) _) c.append.ensures.limits
 
 pub returns-clause-kept : goal.returns-clause-kept
 returns-clause-kept c =
@@ -229,12 +230,9 @@ returns-clause-kept c =
     let less = left_less (version_at s.versions w.version) c.get-2.result.now w.cell c.know_grid.ensures content bucket open_ in
     let fewer = left_done q s w.version c.place_of-place.result w.cell l second there less in
     let done : Project = record { board = q.board; newest = q.newest; live = with_item q.live c.place_of-place.result c.put-left.new.self } in
-    let after : State = record { limits = old.limits; projects = with_item old.projects (w.project - 1) done; entries = c.push_reserved.new.self; triangles = old.triangles; text = old.text } in
     let e : Entry = entry_of c.args.stamp w.project (BucketDone w.version w.cell) in
-    let pushed : c.push_reserved.new.self.items ≡ h ++ e ∷ [] = c.push_reserved.ensures.items ∙ ap (λ es. es ++ e ∷ []) c.in_ok-reserve.ensures.items in
-    let more : old.triangles ≡ old.triangles + 0 = omega arith in
-    let longer : old.text ≡ old.text + 0 = omega arith in
-    kept_after old after e done c.requires.kept c.requires.after given.low given.high
+    let pushed : c.append.new.self.entries.items ≡ h ++ e ∷ [] = c.append.ensures.entries ∙ ap (λ es. es ++ e ∷ []) c.in_ok-reserve.ensures.items in
+    kept_after old c.append.new.self e done c.requires.kept c.requires.after given.low given.high
     (keeps_done q s w.version c.place_of-place.result w.cell l second there done c.put-left.new.self refl refl refl put)
-    refl pushed more longer refl
+    (ap (λ ps. ps.items) c.append.ensures.projects) pushed c.append.ensures.triangles c.append.ensures.text c.append.ensures.limits
     (room_done (length old.projects.items) old.limits.journal h w.project w.version w.cell c.requires.kept.room given.low given.high fewer)

@@ -1,11 +1,11 @@
-use Rattle.std.proofs.Common.{◌∙◌, refl, sym, ap}
+use Rattle.book_history.specs.Legal.{IsLegal}
+use Rattle.book_history.specs.Requests.{all_orders, changed, clashes_read, finished, in_project, order_for, outcome_of, removed, version_read}
 use Rattle.book_history.specs.declared.changes.Change.TheVariants as change
-use Rattle.book_history.specs.Requests.{in_project, changed, removed, version_read, clashes_read, outcome_of}
+use Rattle.federation_book.proofs.Acting.{added_is, asked_is, done_of, number_is, number_there, reply_is}
+use Rattle.federation_book.proofs.Answering.{clashes_add, read_adds, work_adds}
 use Rattle.federation_book.specs.KeptProjects.{settings_of}
-use Rattle.federation_book.proofs.Acting.{number_is, number_there, reply_is, added_is, asked_is, done_of}
-use Rattle.federation_book.proofs.Answering.{read_adds, clashes_add}
-use Rattle.federation_book.proofs.Subjects.{versions_only}
-use Rattle.federation_book.proofs.asking.act_on_versions.Goals as goal
+use Rattle.std.proofs.Common.{ap, length, refl, subst, sym, ◌∙◌}
+use Rattle.federation_book.proofs.asking.act_on.Goals as goal
 
 pub upload-requires-clause-number : goal.upload-requires-clause-number
 upload-requires-clause-number c =
@@ -77,6 +77,23 @@ returns-in-ReadClashes-clause-done c =
     (reply_is c.read_clashes.result h (in_project c.project_of-in-ReadClashes.result (clashes_read h c.in-ReadClashes.version c.in-ReadClashes.first c.in-ReadClashes.pairs)) (outcome_of s h c.args.request) (ap (λ n. in_project n (clashes_read h c.in-ReadClashes.version c.in-ReadClashes.first c.in-ReadClashes.pairs)) number ∙ ap (outcome_of s h) (sym c.in-ReadClashes.is)) c.read_clashes.ensures.reply)
     (asked_is c.read_clashes.result h (in_project c.project_of-in-ReadClashes.result (clashes_read h c.in-ReadClashes.version c.in-ReadClashes.first c.in-ReadClashes.pairs)) (outcome_of s h c.args.request) (ap (λ n. in_project n (clashes_read h c.in-ReadClashes.version c.in-ReadClashes.first c.in-ReadClashes.pairs)) number ∙ ap (outcome_of s h) (sym c.in-ReadClashes.is)) c.read_clashes.new.state.entries.items c.args.stamp c.read_clashes.ensures.entries (clashes_add c.args.stamp h c.in-ReadClashes.version c.in-ReadClashes.first c.in-ReadClashes.pairs c.project_of-in-ReadClashes.result))
 
-pub unreachable-requires : goal.unreachable-requires
-unreachable-requires c =
-    versions_only c.args.request c.requires.subject c.in_default.not-Upload c.in_default.not-Remove c.in_default.not-SetRules c.in_default.not-ReadVersion c.in_default.not-ReadClashes
+pub returns-in-TakeWork-clause-done : goal.returns-in-TakeWork-clause-done
+returns-in-TakeWork-clause-done c =
+    let s = (settings_of c.args.state.now) in
+    let h = c.args.state.now.entries.items in
+    let os = all_orders (length c.args.state.now.projects.items) h in
+    done_of c.take_work.result h h c.args.stamp (outcome_of s h c.args.request)
+    (reply_is c.take_work.result h (order_for os c.in-TakeWork.seat) (outcome_of s h c.args.request) (ap (outcome_of s h) (sym c.in-TakeWork.is)) c.take_work.ensures)
+    (asked_is c.take_work.result h (order_for os c.in-TakeWork.seat) (outcome_of s h c.args.request) (ap (outcome_of s h) (sym c.in-TakeWork.is)) h c.args.stamp refl (work_adds c.args.stamp os c.in-TakeWork.seat))
+
+pub finish-requires-clause-given : goal.finish-requires-clause-given
+finish-requires-clause-given c = subst (IsLegal (settings_of c.args.state.now) c.args.state.now.entries.items) c.in-Finish.is c.requires.legal
+
+pub returns-in-Finish-clause-done : goal.returns-in-Finish-clause-done
+returns-in-Finish-clause-done c =
+    let s = (settings_of c.args.state.now) in
+    let h = c.args.state.now.entries.items in
+    let k = c.finish.new.state.entries.items in
+    done_of c.finish.result h k c.args.stamp (outcome_of s h c.args.request)
+    (reply_is c.finish.result h (finished h c.in-Finish.set) (outcome_of s h c.args.request) (ap (outcome_of s h) (sym c.in-Finish.is)) c.finish.ensures.reply)
+    (added_is c.finish.result h (finished h c.in-Finish.set) (outcome_of s h c.args.request) (ap (outcome_of s h) (sym c.in-Finish.is)) k c.args.stamp c.finish.ensures.added)
