@@ -1,7 +1,9 @@
+# shellcheck shell=bash
 # For the scripts that time one crate: build_pace FOLDER CRATE BELOW builds bench/FOLDER/pace.txt as a program over
 # CRATE and what that stands on, proved (`rt run`), in the scratch folder $work. BELOW are the crates that the program
 # names. The libraries that earlier checks built are copied along.
 build_pace() {
+    : "${top:?the repository}" "${work:?a scratch folder}"
     mkdir -p "$work/crates/pace/src"
     for name in $(python3 "$top/bench/stands_on.py" --names "$2"); do
         mkdir -p "$work/crates/$name/out"
