@@ -6,7 +6,7 @@ use bcf_viewpoints::ViewPart;
 use bim_model::{Author, Bytes, Items, Mode, Moment, Text};
 use book_history::{BookFault, BookReply, BookRequest, Horizon, ReplyBody, Wanted};
 use clash_rules::RuleFault;
-use http_frame::{FrameFault, HttpRequest};
+use http_frame::{FrameFault, HttpRequest, TurnField};
 use http_routes::{QueryName, RoutePath, Routes};
 use std::alloc::{AllocError, Global};
 use std::process::Abort;
@@ -25,6 +25,7 @@ fn request(
         user: Text::of(alloc, "anna")?,
         close: false,
         encoded: false,
+        seen: TurnField::Absent,
         body: Items::from_vec(body.as_bytes().to_vec(alloc)?),
     })
 }

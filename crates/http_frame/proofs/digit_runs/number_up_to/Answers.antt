@@ -1,5 +1,5 @@
 use Rattle.http_frame.proofs.Digits.{digit_more, past_most}
-use Rattle.http_frame.proofs.head.number_up_to.Goals as goal
+use Rattle.http_frame.proofs.digit_runs.number_up_to.Goals as goal
 
 pub returns-then-value-most : goal.returns-then-value-most
 returns-then-value-most c =
