@@ -17,7 +17,7 @@ use Rattle.bcf_bodies.specs.TopicTrees.{IsTopicTree}
 use Rattle.bcf_bodies.specs.CommentTrees.{IsCommentTree}
 use Rattle.bcf_bodies.specs.ViewTrees.{whole_tree, view_tree}
 use Rattle.bcf_http.specs.declared.asked.RequestFault.{RequestFault}
-use Rattle.bcf_http.specs.declared.asked.RequestFault.TheVariants.{NoRoute, Method, Encoding, Query, BadJson, Rules, Body}
+use Rattle.bcf_http.specs.declared.asked.RequestFault.TheVariants.{NoRoute, Method, Encoding, Query, BadTurn, BadJson, Rules, Body}
 use Rattle.http_routes.specs.declared.paths.RoutePath.{RoutePath}
 use Rattle.http_routes.specs.declared.query.QueryName.{QueryName}
 use Rattle.http_routes.specs.declared.query.QueryName.TheVariants.{Grid, First, Count}
@@ -55,6 +55,7 @@ request_fault_tree NoRoute = error_tree (codes "H7") (codes "NoRoute")
 request_fault_tree (Method row) = error_tree (codes "H8") (codes "Method")
 request_fault_tree Encoding = error_tree (codes "H12") (codes "Encoding")
 request_fault_tree (Query name) = error_named (codes "H11") (codes "Query") (query_text name)
+request_fault_tree BadTurn = error_tree (codes "H13") (codes "TurnField")
 request_fault_tree BadJson = error_tree (codes "H9") (codes "BadJson")
 request_fault_tree (Rules fault) = rule_fault_tree fault
 request_fault_tree (Body fault) = body_fault_tree fault
@@ -185,6 +186,7 @@ fault_status NoRoute = 404
 fault_status (Method row) = 405
 fault_status Encoding = 415
 fault_status (Query name) = 400
+fault_status BadTurn = 400
 fault_status BadJson = 400
 fault_status (Rules fault) = 422
 fault_status (Body fault) = 422

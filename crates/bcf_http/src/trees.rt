@@ -55,6 +55,7 @@ fn fault_out(alloc: Global, fault: &RequestFault) -> Result<Value, AllocError>
         RequestFault::Method { .. } => error_out(alloc, "H8", "Method"),
         RequestFault::Encoding => error_out(alloc, "H12", "Encoding"),
         RequestFault::Query { name } => error_named(alloc, "H11", "Query", query_text(*name)),
+        RequestFault::BadTurn => error_out(alloc, "H13", "TurnField"),
         RequestFault::BadJson => error_out(alloc, "H9", "BadJson"),
         RequestFault::Rules(fault) => rule_fault_out(alloc, *fault),
         RequestFault::Body(fault) => body_fault_out(alloc, fault),
