@@ -15,7 +15,7 @@ use Rattle.bcf_bodies.specs.TopicTrees.{IsTopicTree}
 use Rattle.bcf_bodies.specs.CommentTrees.{IsCommentTree}
 use Rattle.bcf_bodies.specs.ViewTrees.{whole_tree}
 use Rattle.coord_json.specs.RuleTrees.{rule_items}
-use Rattle.coord_json.proofs.Floats.{error_has_none, named_has_none, full_has_none, place_has_none, store_has_none, newest_has_none, dropped_has_none, upload_has_none, rule_fault_has_none, version_has_none, models_have_none, rules_have_none, changed_has_none, clashes_have_none, pending_has_none}
+use Rattle.coord_json.proofs.Floats.{error_has_none, named_has_none, full_has_none, place_has_none, turn_has_none, store_has_none, newest_has_none, dropped_has_none, upload_has_none, rule_fault_has_none, version_has_none, models_have_none, rules_have_none, changed_has_none, clashes_have_none, pending_has_none}
 use Rattle.bcf_http.specs.declared.asked.RequestFault.{RequestFault}
 use Rattle.bcf_http.specs.declared.asked.RequestFault.TheVariants.{NoRoute, Method, Encoding, Query, BadTurn, BadJson, Rules, Body}
 use Rattle.http_frame.specs.declared.types.FrameFault.{FrameFault}
@@ -46,6 +46,7 @@ refusal_has_none (refusal.JournalFull count limit) = full_has_none _ _ count lim
 refusal_has_none refusal.AlreadyDone = error_has_none _ _
 refusal_has_none refusal.NoWork = error_has_none _ _
 refusal_has_none (refusal.NoClash place total) = place_has_none _ _ place total
+refusal_has_none (refusal.TurnAhead given turn) = turn_has_none _ _ given turn
 refusal_has_none refusal.NoTopic = error_has_none _ _
 refusal_has_none refusal.NoComment = error_has_none _ _
 refusal_has_none (refusal.TopicsFull count limit) = full_has_none _ _ count limit

@@ -26,7 +26,7 @@ use Rattle.http_frame.specs.declared.types.FrameFault.TheVariants as frame
 use Rattle.bcf_http.specs.declared.reply_kind.ReplyKind.{ReplyKind}
 use Rattle.bcf_http.specs.declared.answers.Answer.{Answer}
 use Rattle.bcf_http.specs.declared.answers.Answer.TheVariants as answer
-use Rattle.coord_json.specs.Errors.{error_tree, error_named, error_newest, error_version, error_store, error_full, error_place}
+use Rattle.coord_json.specs.Errors.{error_tree, error_named, error_newest, error_version, error_store, error_full, error_place, error_turn}
 use Rattle.coord_json.specs.FaultTrees.{upload_fault_tree, rule_fault_tree}
 use Rattle.coord_json.specs.VersionTrees.{changed_tree, IsVersionTree}
 use Rattle.coord_json.specs.ClashTrees.{clashes_tree, pending_tree}
@@ -86,6 +86,7 @@ book_fault_tree (refusal.JournalFull count limit) = error_full (codes "K9") (cod
 book_fault_tree refusal.AlreadyDone = error_tree (codes "K10") (codes "AlreadyDone")
 book_fault_tree refusal.NoWork = error_tree (codes "K11") (codes "NoWork")
 book_fault_tree (refusal.NoClash place total) = error_place (codes "K12") (codes "NoClash") place total
+book_fault_tree (refusal.TurnAhead given turn) = error_turn (codes "K13") (codes "TurnAhead") given turn
 book_fault_tree refusal.NoTopic = error_tree (codes "B1") (codes "NoTopic")
 book_fault_tree refusal.NoComment = error_tree (codes "B2") (codes "NoComment")
 book_fault_tree (refusal.TopicsFull count limit) = error_full (codes "B5") (codes "TopicsFull") count limit
@@ -155,6 +156,7 @@ refusal_status (refusal.JournalFull count limit) = 507
 refusal_status refusal.AlreadyDone = 404
 refusal_status refusal.NoWork = 404
 refusal_status (refusal.NoClash place total) = 404
+refusal_status (refusal.TurnAhead given turn) = 409
 refusal_status refusal.NoTopic = 404
 refusal_status refusal.NoComment = 404
 refusal_status (refusal.TopicsFull count limit) = 507

@@ -41,6 +41,7 @@ fn refusal_status(fault: BookFault) -> StatusCode
         BookFault::AlreadyDone => StatusCode::NOT_FOUND,
         BookFault::NoWork => StatusCode::NOT_FOUND,
         BookFault::NoClash { .. } => StatusCode::NOT_FOUND,
+        BookFault::TurnAhead { .. } => StatusCode::CONFLICT,
         BookFault::NoTopic => StatusCode::NOT_FOUND,
         BookFault::NoComment => StatusCode::NOT_FOUND,
         BookFault::TopicsFull { .. } => StatusCode::INSUFFICIENT_STORAGE,

@@ -11,7 +11,7 @@ use bcf_viewpoints::ViewPart;
 use book_history::{BookFault, ReplyBody, StoreWhat};
 use coord_json::{
     changed_out, clashes_out, error_full, error_named, error_newest, error_out, error_place,
-    error_store, error_version, pending_out, rule_fault_out, upload_fault_out, version_out,
+    error_store, error_turn, error_version, pending_out, rule_fault_out, upload_fault_out, version_out,
 };
 use http_frame::FrameFault;
 use http_routes::QueryName;
@@ -99,6 +99,7 @@ fn refusal_out(alloc: Global, fault: BookFault) -> Result<Value, AllocError>
         BookFault::AlreadyDone => error_out(alloc, "K10", "AlreadyDone"),
         BookFault::NoWork => error_out(alloc, "K11", "NoWork"),
         BookFault::NoClash { place, total } => error_place(alloc, "K12", "NoClash", place, total),
+        BookFault::TurnAhead { given, turn } => error_turn(alloc, "K13", "TurnAhead", given, turn),
         BookFault::NoTopic => error_out(alloc, "B1", "NoTopic"),
         BookFault::NoComment => error_out(alloc, "B2", "NoComment"),
         BookFault::TopicsFull { count, limit } => {

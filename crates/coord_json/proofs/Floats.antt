@@ -13,7 +13,7 @@ use Rattle.bim_model.specs.Snapshots.{Version}
 use Rattle.bucket_check.specs.declared.pair.SetPair.{SetPair}
 use Rattle.clash_rules.specs.declared.rule_fault.RuleFault.{RuleFault}
 use Rattle.coord_json.specs.RuleTrees.{storey_tree, class_text, storeys_text, models_text, clash_tree, ignore_tree, kind_tree, rule_items}
-use Rattle.coord_json.specs.Errors.{error_tree, error_at, error_of, error_to, error_many, error_named, error_index, error_count, error_full, error_place, error_store, error_newest, error_version}
+use Rattle.coord_json.specs.Errors.{error_tree, error_at, error_of, error_to, error_many, error_named, error_index, error_count, error_full, error_place, error_turn, error_store, error_newest, error_version}
 use Rattle.coord_json.specs.declared.fault_words.FaultFields.{FaultFields}
 use Rattle.coord_json.specs.declared.fault_words.FaultFields.TheVariants.{Bare, Place, Id, Reference, What, Index, Count}
 use Rattle.coord_json.specs.FaultWords.{many_word, upload_code, upload_name, upload_fields, rule_code, rule_name, rule_fields}
@@ -60,6 +60,10 @@ full_has_none code name count limit = refl
 pub place_has_none : (code name : List ℕ) (place total : ℕ) → has_float (error_place code name place total) ≡ false
 unfolding error_place
 place_has_none code name place total = refl
+
+pub turn_has_none : (code name : List ℕ) (given turn : ℕ) → has_float (error_turn code name given turn) ≡ false
+unfolding error_turn
+turn_has_none code name given turn = refl
 
 pub store_has_none : (code name : List ℕ) (count limit : ℕ) (what : List ℕ) → has_float (error_store code name count limit what) ≡ false
 unfolding error_store
