@@ -13,7 +13,7 @@ use Rattle.book_history.specs.Runs.{Step}
 use Rattle.book_history.proofs.Histories.{AreAbove, AreOf, added_of, at_turn-grown, of_turn-grown, at_turn-new, of_turn-new}
 use Rattle.bcf_http.specs.declared.answers.Answer.TheVariants as answer
 use Rattle.bim_session.specs.Works.{Standing, Printed, IsTaken, Gives, WorksOne, WorksOn, Works, IsEnough, left_behind, last_turn}
-use Rattle.bim_session.specs.Session.{Asking, asking, TakesTurn, IsResponseTo, clashes_call, IsKept, IsShelved, IsBooked, TakesIdly, up_to_printed, printed_after, Answers, AnswersEvent, WorksBehind, AnswersFirst, Answered, counted, requests, closes, is_closed, past, behind}
+use Rattle.bim_session.specs.Session.{Asking, asking, TakesTurn, IsResponseTo, kept_call, IsKept, IsShelved, IsBooked, TakesIdly, up_to_printed, printed_after, Answers, AnswersEvent, WorksBehind, AnswersFirst, Answered, counted, requests, closes, is_closed, past, behind}
 use Rattle.bim_session.proofs.Reading.{or_false}
 
 -- ---- later entries
@@ -106,7 +106,7 @@ shelved_grown a more top bytes steps printed s le above = record {
   kept = kept_grown a more top le above s.kept;
   response = λ (stamp : Stamp) next.
       subst (λ (es : List Entry). IsResponseTo a
-      (answer.Book (reply_of a.standing.settings es stamp (clashes_call s.kept.seen s.kept.id s.kept.version s.kept.first s.kept.count)))
+      (answer.Book (reply_of a.standing.settings es stamp (kept_call s.kept.seen s.kept.id s.kept.version s.kept.first s.kept.count)))
       (Some a.standing.printed.turn) bytes)
       (sym (printed_grown a.standing more top le above)) (s.response stamp next);
   none = s.none;

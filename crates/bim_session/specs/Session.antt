@@ -143,13 +143,13 @@ pub record IsPlain (a : Asking) (bytes : List ℕ) (steps : List Step) (printed 
 abbrev pub up_to_printed : Standing → List Entry
 up_to_printed s = at_turn (s.printed.turn + 1) s.history
 
--- a call for clashes of a version by its number, with the turn that it gives
-abbrev pub clashes_call : Option ℕ → ℕ → ℕ → ℕ → ℕ → BookCall
-clashes_call seen id version first count =
+-- the call for clashes of a version by its number, with the turn that it gives
+abbrev pub kept_call : Option ℕ → ℕ → ℕ → ℕ → ℕ → BookCall
+kept_call seen id version first count =
     record { seen = seen; request = ReadClashes id (Number version) first count }
 
 -- The request asks for the clashes of a version, by its number, that the session was answered before and that is still one
--- of the last sixteen of its project at the turn that was printed last. If it gives a turn, that isn't above the printed one.
+-- of the last sixteen of its project at the turn that was printed last. It gives no turn above that one.
 pub record IsKept (a : Asking) : Type 0 where
   pub seen : Option ℕ
   pub id : ℕ
@@ -157,7 +157,7 @@ pub record IsKept (a : Asking) : Type 0 where
   pub version : ℕ
   pub first : ℕ
   pub count : ℕ
-  pub means : Means a.moment a.request (clashes_call seen id version first count)
+  pub means : Means a.moment a.request (kept_call seen id version first count)
   pub up_to : IsUpTo a.standing.printed.turn seen
   pub named : named_project id ≡ Some project
   pub answered : Contains a.standing.printed.sets (project, version)
@@ -169,7 +169,7 @@ pub record IsShelved (a : Asking) (bytes : List ℕ) (steps : List Step) (printe
   pub kept : IsKept a
   pub response : (stamp : Stamp) → stamp.turn ≡ a.standing.printed.turn + 1 → IsResponseTo a
       (answer.Book (reply_of a.standing.settings (up_to_printed a.standing) stamp
-      (clashes_call kept.seen kept.id kept.version kept.first kept.count)))
+      (kept_call kept.seen kept.id kept.version kept.first kept.count)))
       (Some a.standing.printed.turn) bytes
   pub none : steps ≡ []
   pub printed_is : printed ≡ a.standing.printed

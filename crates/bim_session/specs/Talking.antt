@@ -218,7 +218,8 @@ abbrev pub WantsFor : ℕ → HttpRequest → TalkState → Want → TalkState �
 WantsFor moment request old More new = ⊥
 WantsFor moment request old (Call call) new =
     Means moment request call × ¬ (AsksKept old.notes call)
-    × (new ≡ with_call (waiting_for request (old.served + 1) (asks_change call.request) (project_read call.request)) old)
+    × (new ≡ with_call (waiting_for request (old.served + 1) (asks_change call.request)
+    (project_read call.request)) old)
 WantsFor moment request old (Write bytes) new =
     AnswersAtOnce moment request old.notes (waiting_for request (old.served + 1) false None) bytes
     × (new ≡ with_answer (closes_after request (old.served + 1)) old)
@@ -286,8 +287,8 @@ Talks rest told moments old (Call call) new =
     (old.leaving ≡ None)
     × ((one : TakesRequest rest told moments new.framer) × Means one.moment one.request call
     × ¬ (AsksKept old.notes call)
-    × (new ≡ with_call (waiting_for one.request (old.served + 1) (asks_change call.request) (project_read call.request))
-    (with_framer new.framer old)))
+    × (new ≡ with_call (waiting_for one.request (old.served + 1) (asks_change call.request)
+    (project_read call.request)) (with_framer new.framer old)))
 Talks rest told moments old (Leave e) new =
     (moments ≡ [])
     × ((old.leaving ≡ Some e)

@@ -40,7 +40,7 @@ use Rattle.bcf_http.specs.Answers.{IsResponse}
 use Rattle.bim_session.specs.declared.notes.Notes.{Notes}
 use Rattle.bim_session.specs.ShelfNotes.{project_read, set_told, put_set, IsUpTo, AsksShelf, AsksKept, Noted}
 use Rattle.bim_session.specs.Works.{Standing, Printed}
-use Rattle.bim_session.specs.Session.{Means, MeansRequest, clashes_call, IsKept, IsShelved, asking, up_to_printed, with_set, printed_after, closes_after}
+use Rattle.bim_session.specs.Session.{Means, MeansRequest, kept_call, IsKept, IsShelved, asking, up_to_printed, with_set, printed_after, closes_after}
 use Rattle.bim_session.specs.Talking.{AnswersKept, KeepsNone, waiting_for}
 use Rattle.bim_session.proofs.Sessions.{up_to_grown}
 use Rattle.book_history.proofs.Staying.{Settled, settled_later, newest_later, read_settled}
@@ -155,7 +155,7 @@ outcome_settled settings h id p v first count content named high settled live =
 reply_settled : (settings : Settings) (h : List Entry) (stamp : Stamp) (seen : Option ℕ) (id p v first count : ℕ) (content : Version) → ahead stamp.turn seen ≡ None
     → project_of 8 id ≡ Some p → p ≤ settings.projects → Settled (state_of p h) v content → newest_of p h < v + 16
     → (let told : BookReply = record { body = reply.Clashes v content first count; horizon = horizon_of settings.projects h } in
-    reply_of settings h stamp (clashes_call seen id v first count) ≡ told)
+    reply_of settings h stamp (kept_call seen id v first count) ≡ told)
 reply_settled settings h stamp seen id p v first count content below named high settled live =
     let asked : Outcome = outcome_of settings h (ReadClashes id (Number v) first count) in
     let is : refused_or (ahead stamp.turn seen) asked ≡ Answer (reply.Clashes v content first count) =
@@ -196,14 +196,14 @@ shelved s m r notes bytes keeps x = of_kind keeps.kept
           answered = on.answered;
           live = subst (λ (es : List Entry). newest_of asks.project es < asks.version + 16) (sym at) on.live;
         } in
-        let same : (stamp : Stamp) → stamp.turn ≡ s.printed.turn + 1 → x.kept ≡ reply_of s.settings (up_to_printed s) stamp (clashes_call seen asks.id asks.version asks.first asks.count) = λ (stamp : Stamp) next.
+        let same : (stamp : Stamp) → stamp.turn ≡ s.printed.turn + 1 → x.kept ≡ reply_of s.settings (up_to_printed s) stamp (kept_call seen asks.id asks.version asks.first asks.count) = λ (stamp : Stamp) next.
         x.is_kept.0.1 ∙ ap (λ (z : Horizon). (let b : BookReply = record { body = reply.Clashes asks.version asks.content asks.first asks.count; horizon = z } in b)) some.holds.horizon
         ∙ sym (reply_settled s.settings some.front stamp seen asks.id asks.project asks.version asks.first asks.count asks.content (up_to_below stamp.turn s.printed.turn seen next up_to) asks.named on.high on.settled on.live)
-        ∙ ap (λ (es : List Entry). reply_of s.settings es stamp (clashes_call seen asks.id asks.version asks.first asks.count)) (sym at) in
+        ∙ ap (λ (es : List Entry). reply_of s.settings es stamp (kept_call seen asks.id asks.version asks.first asks.count)) (sym at) in
         record {
           kept = kept;
           response = λ (stamp : Stamp) next.
-              subst (λ (t : ℕ). IsResponse (answer.Book (reply_of s.settings (up_to_printed s) stamp (clashes_call seen asks.id asks.version asks.first asks.count))) (kind_of r) (Some t)
+              subst (λ (t : ℕ). IsResponse (answer.Book (reply_of s.settings (up_to_printed s) stamp (kept_call seen asks.id asks.version asks.first asks.count))) (kind_of r) (Some t)
               (closes_after r (s.served + 1)) bytes) keeps.turn_is
               (subst (λ (b : BookReply). IsResponse (answer.Book b) (kind_of r) (Some notes.turn) (closes_after r (s.served + 1)) bytes) (same stamp next) x.response);
           none = refl;

@@ -10,7 +10,8 @@ use Rattle.server_commands.specs.inner.Turns.{ServerState, with_turn, stamp_of, 
 
 -- the next turn gives this bucket out
 abbrev pub GivesOut : ServerState → OrderValue → Type 0
-GivesOut s order = (reply_of s.settings s.history (stamp_of (s.turns + 1)) (without_turn (TakeWork 0))).body ≡ Work order
+GivesOut s order =
+    (reply_of s.settings s.history (stamp_of (s.turns + 1)) (without_turn (TakeWork 0))).body ≡ Work order
 
 -- a bucket is given out at the next turn, and its set is brought at the turn after that
 pub record WorksBucket (old new : ServerState) : Type 0 where
@@ -23,7 +24,8 @@ pub record WorksBucket (old new : ServerState) : Type 0 where
 -- nothing was done of that, or the bucket was given out alone
 abbrev pub WorksPart : ServerState → ServerState → Type 0
 WorksPart old new =
-    (new ≡ old) ⊎ ((order : OrderValue) × GivesOut old order × (new ≡ with_turn (without_turn (TakeWork 0)) old))
+    (new ≡ old)
+    ⊎ ((order : OrderValue) × GivesOut old order × (new ≡ with_turn (without_turn (TakeWork 0)) old))
 
 -- so many buckets are worked, one after the other
 abbrev pub WorksTimes : ServerState → ℕ → ServerState → Type 0
