@@ -80,15 +80,15 @@ impl Notes {
 
     /// The book's reply to a call that asks for clashes on the shelf and gives no turn above the one that was printed
     /// last, as it is at that turn. For any other call there is none.
+    #[tactic(auto, using(crate::proofs::ShelfReplies::kept_up_to, crate::proofs::ShelfReplies::unkept_up_to))]
     pub fn reply_to(&self, call: &BookCall) -> Result<Option<BookReply>, AllocError>
         ensures kept { IfOk result (λ reply. IfSome reply (IsKeptReply self.now call.now)) }
         ensures none { IfOk result (λ reply. reply ≡ None → ¬ (AsksKept self.now call.now)) }
     {
-        if is_up_to(self.turn, call.seen) {
-            self.on_shelf(&call.request)
-        } else {
-            Ok(None)
+        if !is_up_to(self.turn, call.seen) {
+            return Ok(None);
         }
+        self.on_shelf(&call.request)
     }
 
     // The reply to a request that asks for clashes on the shelf.
