@@ -1,5 +1,5 @@
 -- What becomes of a call by the turn that it gives.
-use Rattle.std.proofs.Common.{◌≡◌, ◌++◌, ◌∙◌, ◌<◌, ℕ, List, [], Option, Some, None, nat_le, if◌then◌else◌, true, false, refl, sym, ap, arith, append-nil}
+use Rattle.std.proofs.Common.{◌≡◌, ◌++◌, ◌<◌, ℕ, List, [], Option, Some, None, Bool, nat_le, if◌then◌else◌, false, ap, arith, append-nil, ◌∙◌}
 use Rattle.std.proofs.lemmas.Bool.Decides.{nat_tests}
 use Rattle.book_turn.specs.declared.object.Stamp.{Stamp}
 use Rattle.book_turn.specs.Entries.{listed}
@@ -7,10 +7,11 @@ use Rattle.book_history.specs.declared.limits.Settings.{Settings}
 use Rattle.book_history.specs.declared.requests.BookCall.{BookCall}
 use Rattle.book_history.specs.declared.changes.Entry.{Entry}
 use Rattle.book_history.specs.declared.book_fault.BookFault.{BookFault}
+use Rattle.book_history.specs.declared.book_fault.BookFault.TheVariants.{TurnAhead}
 use Rattle.book_history.specs.declared.replies.ReplyBody.TheVariants.{Refused}
 use Rattle.book_history.specs.declared.replies.BookReply.{BookReply}
 use Rattle.book_history.specs.History.{horizon_of}
-use Rattle.book_history.specs.Requests.{Outcome, refused_or, outcome_of, outcome_in, body_of, entry_by, ahead, without_turn, added_by, reply_of}
+use Rattle.book_history.specs.Requests.{refused_or, outcome_of, outcome_in, body_of, entry_by, ahead, without_turn, added_by, reply_of}
 
 -- what a call adds and how it is answered, by its refusal for the turn that it gives
 abbrev added_after : Settings → List Entry → Stamp → BookCall → Option BookFault → List Entry
@@ -42,4 +43,6 @@ module _ (settings : Settings) (h : List Entry) (stamp : Stamp) (call : BookCall
 
 -- a turn that is below isn't ahead
 pub not_ahead : (turn given : ℕ) → given < turn → ahead turn (Some given) ≡ None
-not_ahead turn given lt = let e : nat_le turn given ≡ false = grind (arith, nat_tests, lt) in rw e refl
+not_ahead turn given lt =
+    let above : nat_le turn given ≡ false = grind (arith, nat_tests, lt) in
+    ap (λ (b : Bool). (if b then Some (TurnAhead given turn) else None)) above

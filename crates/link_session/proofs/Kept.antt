@@ -168,7 +168,7 @@ reply_settled settings h stamp seen id p v first count content below named high 
 -- a turn up to the printed one isn't ahead in the turn after it
 up_to_below : (turn printed : ℕ) (seen : Option ℕ) → turn ≡ printed + 1 → IsUpTo printed seen → ahead turn seen ≡ None
 up_to_below turn printed None is le = refl
-up_to_below turn printed (Some given) is le = not_ahead turn given (omega (arith, is, le))
+up_to_below turn printed (Some given) is le = let low : given ≤ printed = le in not_ahead turn given (omega (arith, is, low))
 
 -- the answer to a request for clashes that are kept
 pub shelved : (s : Standing) (m : ℕ) (r : HttpRequest) (notes : Notes) (bytes : List ℕ) → Keeps s.settings s.history notes s.printed
