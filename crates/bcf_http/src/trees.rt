@@ -11,7 +11,8 @@ use bcf_viewpoints::ViewPart;
 use book_history::{BookFault, ReplyBody, StoreWhat};
 use coord_json::{
     changed_out, clashes_out, error_full, error_named, error_newest, error_out, error_place,
-    error_store, error_turn, error_version, pending_out, rule_fault_out, upload_fault_out, version_out,
+    error_store, error_turn, error_version, pending_out, rule_fault_out, upload_fault_out,
+    version_out,
 };
 use http_frame::FrameFault;
 use http_routes::QueryName;

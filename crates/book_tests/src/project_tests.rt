@@ -7,7 +7,9 @@ use crate::desk::change;
 use crate::samples::to_post;
 use bcf_topics::Topic;
 use bim_model::{Model, NamedModel, Shared, Text, id_of};
-use book_history::{BookCall, BookFault, BookRequest, Change, Entry, Limits, ReplyBody, Stamp, Wanted};
+use book_history::{
+    BookCall, BookFault, BookRequest, Change, Entry, Limits, ReplyBody, Stamp, Wanted,
+};
 use federation_book::Book;
 use std::alloc::{AllocError, Global};
 use std::process::Abort;

@@ -407,15 +407,29 @@ fn refuses_turn(
 fn a_bad_turn_is_judged_behind_the_query_and_before_the_body(rt: HostRuntime) -> Result<(), Fail> {
     let alloc = rt.alloc();
     let topics = "/bcf/3.0/projects/00000001-0000-8000-8000-000000000000/topics";
-    for request in [("GET", topics, ""), ("POST", topics, "["), ("POST", topics, "{}")] {
+    for request in [
+        ("GET", topics, ""),
+        ("POST", topics, "["),
+        ("POST", topics, "{}"),
+    ] {
         refuses_turn(&rt, alloc, request, RequestFault::BadTurn)?;
     }
     refuses_turn(&rt, alloc, ("GET", "/a", ""), RequestFault::NoRoute)?;
     let path = RoutePath::Topics;
-    refuses_turn(&rt, alloc, ("PUT", topics, "["), RequestFault::Method { path })?;
+    refuses_turn(
+        &rt,
+        alloc,
+        ("PUT", topics, "["),
+        RequestFault::Method { path },
+    )?;
     let target = "/coord/1/projects/00000001-0000-8000-8000-000000000000/models/m?grid=";
     let name = QueryName::Grid;
-    refuses_turn(&rt, alloc, ("PUT", target, ""), RequestFault::Query { name })?;
+    refuses_turn(
+        &rt,
+        alloc,
+        ("PUT", target, ""),
+        RequestFault::Query { name },
+    )?;
     let target = "/coord/1/projects/00000001-0000-8000-8000-000000000000/models/m";
     refuses_turn(&rt, alloc, ("PUT", target, ""), RequestFault::BadTurn)
 }
