@@ -6,7 +6,12 @@ use Rattle.book_turn.specs.declared.call_fault.CallFault.{CallFault}
 use Rattle.book_turn.specs.declared.call_fault.CallFault.TheVariants.{Memory, PassSpent}
 use Rattle.book_turn.specs.TurnFaults.{Failed}
 use Rattle.book_history.specs.declared.limits.Settings.{Settings}
+use Rattle.book_history.specs.declared.changes.Entry.{Entry}
+use Rattle.book_history.specs.declared.requests.BookRequest.{BookRequest}
+use Rattle.book_history.specs.declared.requests.BookRequest.TheVariants.{Finish}
 use Rattle.book_history.specs.declared.requests.BookCall.{BookCall}
+use Rattle.book_history.specs.Legal.{IsLegal}
+use Rattle.bcf_http.specs.Asked.{BringsNone}
 use Rattle.bim_session.specs.declared.end.SessionEnd.{SessionEnd}
 use Rattle.bim_session.specs.declared.want.Waiting.{Waiting}
 use Rattle.bim_session.specs.declared.want.Want.TheVariants.{Write, Leave}
@@ -53,6 +58,11 @@ left_call settings goes call x talk talk' server server' receipt e waits calls w
     (one.0, one.1, receipt, calls, went, inl ((talk', one.2), refl))
 
 -- ---- a call by a pass
+
+-- a request that brings no set may be made at every history
+pub legal_of : (settings : Settings) (h : List Entry) (request : BookRequest) → BringsNone request → IsLegal settings h request
+legal_of settings h (Finish set) none = absurd (none set refl)
+legal_of settings h _ none = tt
 
 -- what is known of it
 pub calls_by_pass : (settings : Settings) (call : BookCall) (v w : BookPass) (result : Result BookReceipt CallFault) → KeepsNumbers v w

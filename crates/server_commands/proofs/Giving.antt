@@ -9,7 +9,6 @@ use Rattle.book_history.specs.declared.limits.Settings.{Settings}
 use Rattle.book_history.specs.declared.changes.Entry.{Entry}
 use Rattle.book_history.specs.declared.replies.BookReply.{BookReply}
 use Rattle.book_history.specs.declared.replies.ReplyBody.TheVariants.{Work}
-use Rattle.book_history.specs.declared.requests.BookRequest.{BookRequest}
 use Rattle.book_history.specs.declared.requests.BookCall.{BookCall}
 use Rattle.book_history.specs.declared.requests.BookRequest.TheVariants.{TakeWork, Finish}
 use Rattle.book_history.specs.Orders.{OrderValue, order_of}
@@ -19,15 +18,9 @@ use Rattle.book_history.specs.Requests.{orders_in, orders_from, orders_of, all_o
 use Rattle.book_history.specs.Legal.{IsLegal}
 use Rattle.book_history.proofs.Given.{given_out}
 use Rattle.book_history.proofs.Legality.{given_later}
-use Rattle.bcf_http.specs.Asked.{BringsNone}
 use Rattle.bim_session.specs.Works.{IsFoundFor}
 use Rattle.server_commands.specs.inner.Turns.{ServerState, Calls, with_turn, stamp_of, left_of}
 use Rattle.server_commands.specs.inner.BucketWork.{GivesOut}
-
--- a call that brings no set may be made at every history
-pub legal_of : (settings : Settings) (h : List Entry) (call : BookRequest) → BringsNone call → IsLegal settings h call
-legal_of settings h (Finish set) none = absurd (none set refl)
-legal_of settings h _ none = tt
 
 -- ---- as many orders as buckets are left
 

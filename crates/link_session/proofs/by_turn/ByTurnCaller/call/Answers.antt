@@ -1,7 +1,10 @@
 use Rattle.book_passes.specs.Lessons.{caller_of}
-use Rattle.link_session.proofs.Calling.{calls_by_pass}
+use Rattle.link_session.proofs.Calling.{legal_of, calls_by_pass}
 use Rattle.link_session.proofs.Turns.{goes_call}
 use Rattle.link_session.proofs.by_turn.ByTurnCaller.call.Goals as goal
+
+pub call-requires-clause-legal : goal.call-requires-clause-legal
+call-requires-clause-legal g c = legal_of _ _ c.args.call.request c.requires.none
 
 pub returns-clause-calls : goal.returns-clause-calls
 returns-clause-calls g c =

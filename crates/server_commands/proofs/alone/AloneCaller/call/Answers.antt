@@ -1,7 +1,7 @@
 use Rattle.std.proofs.Common.{inl, ap, ◌∙◌}
 use Rattle.bim_session.specs.Replay.{stated_settings}
 use Rattle.server_commands.specs.inner.OneActor.{seen_alone}
-use Rattle.server_commands.proofs.Giving.{legal_of}
+use Rattle.link_session.proofs.Calling.{legal_of}
 use Rattle.server_commands.proofs.OneActor.{taken_alone, went_alone, stays_alone}
 use Rattle.server_commands.proofs.alone.AloneCaller.call.Goals as goal
 
