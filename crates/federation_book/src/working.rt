@@ -11,7 +11,7 @@ use crate::project::{Project, left_in};
 use crate::project_reads::{dropped, place_of};
 use crate::state::State;
 use crate::version::know_grid;
-use bim_model::Shared;
+use bim_model::{Shared, know};
 use book_history::{BookFault, Change, Entry, ReplyBody, Stamp, WorkOrder};
 use bucket_check::BucketSet;
 use std::alloc::AllocError;
@@ -95,6 +95,8 @@ pub fn finish(
         project: number,
         change: Change::BucketDone { version, cell },
     };
+    know(state.triangles);
+    know(state.text);
     state.append(entry, 0, 0);
     Ok(ReplyBody::Finished { left })
 }
