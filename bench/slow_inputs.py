@@ -20,6 +20,7 @@ from tests.ifc.crowds import (
     mapped,
     parts,
     placed,
+    plates,
     shared_shape,
     shared_storey,
     sharing,
@@ -116,6 +117,9 @@ INPUTS: dict[str, Callable[[], bytes]] = {
     ),
     "clashes of 50 sheets of 1,000 triangles": lambda: clashes(sheets(50)),
     "clashes of 100 sheets of 1,000 triangles": lambda: clashes(sheets(100)),
+    "12 plates as wide as a model may be": lambda: upload(
+        plates(*range(-798_000, 660_000, 132_000))
+    ),
 }
 
 

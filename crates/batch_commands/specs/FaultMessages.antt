@@ -3,9 +3,9 @@ use Rattle.std.specs.Prelude.{ℕ, List, ◌++◌, codes}
 use Rattle.std.specs.Fmt.{decimal}
 use Rattle.bim_model.specs.declared.upload.UploadFault.{UploadFault}
 use Rattle.bucket_grid.specs.declared.grid.TheConstants.{MOST_MEMBERSHIPS}
-use Rattle.coord_json.specs.declared.fault_words.FaultFields.{FaultFields}
-use Rattle.coord_json.specs.declared.fault_words.FaultFields.TheVariants.{Bare, Place, Id, Reference, What, Index, Count}
-use Rattle.coord_json.specs.FaultWords.{many_word, upload_code, upload_name, upload_fields, rule_code, rule_name, rule_fields}
+use Rattle.error_json.specs.declared.fault_words.FaultFields.{FaultFields}
+use Rattle.error_json.specs.declared.fault_words.FaultFields.TheVariants.{Bare, Place, Id, Reference, What, Index, Count}
+use Rattle.error_json.specs.FaultWords.{many_word, upload_code, upload_name, upload_fields, rule_code, rule_name, rule_fields}
 use Rattle.clash_check.specs.declared.version_fault.TheConstants.{MOST_VERSION_ELEMENTS}
 use Rattle.clash_check.specs.declared.version_fault.VersionFault.{VersionFault}
 use Rattle.clash_check.specs.declared.version_fault.VersionFault.TheVariants as version

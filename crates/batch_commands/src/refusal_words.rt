@@ -6,7 +6,7 @@ use crate::rules_file::RulesFault;
 use bim_model::UploadFault;
 use bucket_grid::MOST_MEMBERSHIPS;
 use clash_check::{MOST_VERSION_ELEMENTS, VersionFault};
-use coord_json::{
+use error_json::{
     FaultFields, many_word, rule_code, rule_fields, rule_name, upload_code, upload_fields,
     upload_name,
 };

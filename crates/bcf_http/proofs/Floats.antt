@@ -15,7 +15,8 @@ use Rattle.bcf_bodies.specs.TopicTrees.{IsTopicTree}
 use Rattle.bcf_bodies.specs.CommentTrees.{IsCommentTree}
 use Rattle.bcf_bodies.specs.ViewTrees.{whole_tree}
 use Rattle.coord_json.specs.RuleTrees.{rule_items}
-use Rattle.coord_json.proofs.Floats.{error_has_none, named_has_none, full_has_none, place_has_none, turn_has_none, store_has_none, newest_has_none, dropped_has_none, upload_has_none, rule_fault_has_none, version_has_none, models_have_none, rules_have_none, changed_has_none, clashes_have_none, pending_has_none}
+use Rattle.coord_json.proofs.Floats.{version_has_none, models_have_none, rules_have_none, changed_has_none, clashes_have_none, pending_has_none}
+use Rattle.error_json.proofs.ErrorFloats.{error_has_none, named_has_none, full_has_none, place_has_none, turn_has_none, store_has_none, newest_has_none, dropped_has_none, upload_has_none, rule_fault_has_none}
 use Rattle.bcf_http.specs.declared.asked.RequestFault.{RequestFault}
 use Rattle.bcf_http.specs.declared.asked.RequestFault.TheVariants.{NoRoute, Method, Encoding, Query, BadTurn, BadJson, Rules, Body}
 use Rattle.http_frame.specs.declared.types.FrameFault.{FrameFault}

@@ -26,8 +26,8 @@ use Rattle.http_frame.specs.declared.types.FrameFault.TheVariants as frame
 use Rattle.bcf_http.specs.declared.reply_kind.ReplyKind.{ReplyKind}
 use Rattle.bcf_http.specs.declared.answers.Answer.{Answer}
 use Rattle.bcf_http.specs.declared.answers.Answer.TheVariants as answer
-use Rattle.coord_json.specs.Errors.{error_tree, error_named, error_newest, error_version, error_store, error_full, error_place, error_turn}
-use Rattle.coord_json.specs.FaultTrees.{upload_fault_tree, rule_fault_tree}
+use Rattle.error_json.specs.Errors.{error_tree, error_named, error_newest, error_version, error_store, error_full, error_place, error_turn}
+use Rattle.error_json.specs.FaultTrees.{upload_fault_tree, rule_fault_tree}
 use Rattle.coord_json.specs.VersionTrees.{changed_tree, IsVersionTree}
 use Rattle.coord_json.specs.ClashTrees.{clashes_tree, pending_tree}
 use Rattle.bcf_http.specs.Responses.{response_bytes}

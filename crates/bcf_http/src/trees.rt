@@ -9,10 +9,10 @@ use crate::asked::RequestFault;
 use bcf_bodies::{BodyFault, comment_out, topic_out, view_out};
 use bcf_viewpoints::ViewPart;
 use book_history::{BookFault, ReplyBody, StoreWhat};
-use coord_json::{
-    changed_out, clashes_out, error_full, error_named, error_newest, error_out, error_place,
-    error_store, error_turn, error_version, pending_out, rule_fault_out, upload_fault_out,
-    version_out,
+use coord_json::{changed_out, clashes_out, pending_out, version_out};
+use error_json::{
+    error_full, error_named, error_newest, error_out, error_place, error_store, error_turn,
+    error_version, rule_fault_out, upload_fault_out,
 };
 use http_frame::FrameFault;
 use http_routes::QueryName;

@@ -1,6 +1,3 @@
-pub mod Errors
-pub mod FaultWords
-pub mod FaultTrees
 pub mod RuleTrees
 pub mod VersionTrees
 pub mod ClashTrees

@@ -13,7 +13,7 @@ use book_turn::pass::Pass;
 use book_turn::turn::Turn;
 use check_workers::Lack;
 use federation_book::Book;
-use serve_lanes::{LaneEnd, Served, run_lanes, serve_lane};
+use serve_lanes::{LaneEnd, Seats, Served, run_lanes, serve_lane};
 use std::alloc::{AllocError, Global};
 use std::marker::Brand;
 use std::process::Abort;
@@ -216,9 +216,10 @@ fn lanes_share_one_history(rt: HostRuntime) -> Result<(), Fail> {
     let clocks = clocks(alloc, 3)?;
     let book = Book::new(alloc, 1, Limits::stated())?;
     let gate = FreeGate::new(3);
+    let seats = Seats::new(alloc, book, 3, 1)?;
     let served = run_lanes::<Brand, HostRuntime, MemDoor, MemClock, FreeGate>(
-        &rt, alloc, book, doors, clocks, 1, &gate, 0,
-    )?;
+        &rt, alloc, seats, doors, clocks, &gate, 0,
+    );
     assert_eq!(rt; told(served), ((true, false), (5, 0), Some((2, 1, 2))));
     Ok(())
 }

@@ -1,2 +1,3 @@
+pub mod LaneSeats
 pub mod Lanes
 pub mod Histories

@@ -19,7 +19,7 @@ use check_workers::{Lack, Worker, join_workers, make_workers, run_workers, work_
 use federation_book::Book;
 use std::alloc::{AllocError, Global};
 use std::collections::VecDeque;
-use std::marker::Brand;
+use std::marker::{Brand, Model};
 use std::sync::Wait;
 use std::thread::{Threads, for_each_mut, join};
 
@@ -137,28 +137,28 @@ where
     lanes
 }
 
-// A lane for each door, with the pass of its number.
+// A lane for each door, with the pass of its number, in the room that was taken for them.
 fn make_lanes<K: Serving, D: Door + Drop, C: Clock + Drop>(
-    alloc: Global,
     turn: &Turn<Book>,
     passes: Vec<Pass<Book>>,
     doors: Vec<D>,
     clocks: Vec<C>,
-) -> Result<Vec<Lane<D, C>>, AllocError>
+    room: Vec<Lane<D, C>>,
+) -> Vec<Lane<D, C>>
     requires settings { turn.now.settings ≡ K.service.settings }
     requires passes { passes.items ≡ new_passes turn.now 0 (vec_len doors) }
     requires doors { AreNew K.service.tells 0 (map D.seen doors.items) }
     requires clocks { vec_len clocks ≡ vec_len doors }
     requires one { All (λ c. TellsOne K.service.one (C.seen c).one) clocks.items }
-    ensures ready { IfOk result (λ lanes.
-        All (λ l. IsReady K.service turn.now l.pass (D.seen l.door) (C.seen l.clock) l.lack) lanes.items) }
-    ensures numbers { IfOk result (λ lanes.
-        map (λ l. (D.seen l.door).number) lanes.items ≡ numbers_from 0 (vec_len doors)) }
+    requires room { (room.items ≡ []) × (vec_len doors ≤ vec_capacity room) }
+    ensures ready { All (λ l. IsReady K.service turn.now l.pass (D.seen l.door) (C.seen l.clock) l.lack)
+        result.items }
+    ensures numbers { map (λ l. (D.seen l.door).number) result.items ≡ numbers_from 0 (vec_len doors) }
 {
     let mut passes = VecDeque::from_vec(passes);
     let mut doors = VecDeque::from_vec(doors);
     let mut clocks = VecDeque::from_vec(clocks);
-    let mut lanes = Vec::new(alloc);
+    let mut lanes = room;
     while let Some(pass) = passes.pop_front() {
         let Some(door) = doors.pop_front() else {
             unreachable!()
@@ -166,15 +166,15 @@ fn make_lanes<K: Serving, D: Door + Drop, C: Clock + Drop>(
         let Some(clock) = clocks.pop_front() else {
             unreachable!()
         };
-        lanes.push(Lane {
+        lanes.push_reserved(Lane {
             pass,
             door,
             clock,
             end: LaneEnd::Closed,
             lack: Lack::none(),
-        })?;
+        });
     }
-    Ok(lanes)
+    lanes
 }
 
 // What is left of lanes whose passes were joined.
@@ -402,10 +402,71 @@ fn close_all<K: Serving, R: Wait, D: Door + Drop, C: Clock + Drop, G: Gate>(
     }
 }
 
+/// All that lanes and workers take of memory before they run: a turn over the book, a pass for each of them and one more,
+/// and room for the lanes and for the doors that are given back. So a server that has opened its doors gives the book back.
+#[derive(Drop)]
+pub struct Seats<D: Door + Drop, C: Clock + Drop> {
+    count: u32,
+    turn: Turn<Book>,
+    own: Pass<Book>,
+    passes: Vec<Pass<Book>>,
+    workers: Vec<Worker>,
+    lanes: Vec<Lane<D, C>>,
+    doors: Vec<D>,
+}
+
+impl<D: Door + Drop, C: Clock + Drop> Model for Seats<D, C> {
+    ghost use Rattle.std.specs.Prelude.{◌≡◌, ◌+◌, ◌≤◌, [], map, vec_len, vec_capacity, All};
+    ghost use Rattle.book_turn.specs.Passes.{new_passes};
+    ghost use Rattle.check_workers.specs.Joins.{IsNewWorker, HasEach};
+    ghost use Rattle.serve_lanes.specs.LaneSeats.{SeatsMade};
+
+    ghost Value = { SeatsMade };
+
+    ghost view = { λ s. record { lanes = s.count; settings = s.turn.settings } };
+
+    ghost invariant = { λ s. IsNewWorker s.turn s.own
+        × (s.own.number ≡ s.count + vec_len s.workers)
+        × (s.turn.passes ≡ s.own.number + 1)
+        × (s.passes.items ≡ new_passes s.turn 0 s.count)
+        × All (λ w. IsNewWorker s.turn w.pass) s.workers.items
+        × HasEach s.count s.own.number (map (λ w. w.pass.number) s.workers.items)
+        × (s.lanes.items ≡ []) × (s.count ≤ vec_capacity s.lanes)
+        × (s.doors.items ≡ []) × (s.count ≤ vec_capacity s.doors) };
+}
+
+impl<D: Door + Drop, C: Clock + Drop> Seats<D, C> {
+    /// For so many lanes and so many workers over a book without entries. At an `Err`, the book is dropped.
+    pub fn new(
+        alloc: Global,
+        book: Book,
+        lanes: u32,
+        workers: u32,
+    ) -> Result<Seats<D, C>, AllocError>
+        requires empty { book.journal ≡ [] }
+        requires few { lanes + workers < MOST_PASSES }
+        ensures made { IfOk result (λ s. s ≡ record { lanes = lanes; settings = book.settings }) }
+    {
+        let room = Vec::with_capacity(alloc, lanes as usize)?;
+        let doors = Vec::with_capacity(alloc, lanes as usize)?;
+        let (turn, own, mut passes) = open_turn(alloc, book, lanes + workers)?;
+        let workers = make_workers(alloc, &turn, &mut passes, workers, lanes)?;
+        Ok(Seats {
+            count: lanes,
+            turn,
+            own,
+            passes,
+            workers,
+            lanes: room,
+            doors,
+        })
+    }
+}
+
 /// Serves connections in lanes, each in a thread of its own with a pass, a door and a clock of its own, until all have
 /// ended; beside them workers check buckets, each in a thread with a pass of its own. Then the passes are joined into one,
 /// which works what is left, and the book is given back, with the doors in their order: all connections were served in the
-/// one history that is its journal. At an `Err`, which comes before the first connection is accepted, the book is dropped.
+/// one history that is its journal.
 pub fn run_lanes<
     K: Serving + Sync,
     R: Threads + Wait + Sync,
@@ -415,40 +476,40 @@ pub fn run_lanes<
 >(
     rt: &R,
     alloc: Global,
-    book: Book,
+    seats: Seats<D, C>,
     doors: Vec<D>,
     clocks: Vec<C>,
-    workers: u32,
     gate: &G,
     links: u64,
-) -> Result<Served<D>, AllocError>
+) -> Served<D>
 where
     D::S: Send,
     D::K: Send,
-    requires empty { book.journal ≡ [] }
-    requires settings { book.settings ≡ K.service.settings }
-    requires few { vec_len doors + workers < MOST_PASSES }
+    requires seats { seats ≡ record { lanes = vec_len doors; settings = K.service.settings } }
     requires doors { AreNew K.service.tells 0 (map D.seen doors.items) }
     requires clocks { vec_len clocks ≡ vec_len doors }
     requires one { All (λ c. TellsOne K.service.one (C.seen c).one) clocks.items }
-    ensures settings { IfOk result (λ r. r.book.settings ≡ book.settings) }
-    ensures served { IfOk result (λ r.
-        All (DoorServed K.service r.book.journal) (map D.seen r.doors.items)) }
-    ensures numbers { IfOk result (λ r.
-        map (λ d. d.number) (map D.seen r.doors.items) ≡ numbers_from 0 (vec_len doors)) }
-    ensures entries { IfOk result (λ r. AreOfLanes (vec_len doors) r.book.journal) }
-    ensures over { IfOk result (λ r. All (IsOver links r.failed) (map D.seen r.doors.items)) }
-    ensures failed { IfOk result (λ r. r.failed ≡ some_failed (map D.seen r.doors.items)) }
-    ensures memory { IfOk result (λ r. some_lacked (map D.seen r.doors.items) ≡ true → r.memory ≡ true) }
-    ensures turns { IfOk result (λ r. some_spent (map D.seen r.doors.items) ≡ true → IsSome r.spent) }
-    ensures work { IfOk result (λ r. (left_all r.book.settings.projects r.book.journal ≡ 0)
-        ⊎ ((r.memory ≡ true) ⊎ IsSome r.spent)) }
+    ensures settings { result.book.settings ≡ K.service.settings }
+    ensures served { All (DoorServed K.service result.book.journal) (map D.seen result.doors.items) }
+    ensures numbers { map (λ d. d.number) (map D.seen result.doors.items) ≡ numbers_from 0 (vec_len doors) }
+    ensures entries { AreOfLanes (vec_len doors) result.book.journal }
+    ensures over { All (IsOver links result.failed) (map D.seen result.doors.items) }
+    ensures failed { result.failed ≡ some_failed (map D.seen result.doors.items) }
+    ensures memory { some_lacked (map D.seen result.doors.items) ≡ true → result.memory ≡ true }
+    ensures turns { some_spent (map D.seen result.doors.items) ≡ true → IsSome result.spent }
+    ensures work { (left_all result.book.settings.projects result.book.journal ≡ 0)
+        ⊎ ((result.memory ≡ true) ⊎ IsSome result.spent) }
 {
-    let room = Vec::with_capacity(alloc, doors.len())?;
-    let count = doors.len() as u32;
-    let (turn, own, mut passes) = open_turn(alloc, book, count + workers)?;
-    let workers = make_workers(alloc, &turn, &mut passes, workers, count)?;
-    let lanes = make_lanes::<K, D, C>(alloc, &turn, passes, doors, clocks)?;
+    let Seats {
+        count: _,
+        turn,
+        own,
+        passes,
+        workers,
+        lanes: room,
+        doors: back,
+    } = seats;
+    let lanes = make_lanes::<K, D, C>(&turn, passes, doors, clocks, room);
     let (lanes, workers) = run_both::<K, R, D, C, G>(rt, alloc, &turn, lanes, workers, gate, links);
-    Ok(close_all::<K, R, D, C, G>(rt, alloc, turn, own, lanes, workers, room, gate, links))
+    close_all::<K, R, D, C, G>(rt, alloc, turn, own, lanes, workers, back, gate, links)
 }

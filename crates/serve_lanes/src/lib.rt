@@ -5,4 +5,4 @@ mod lane;
 mod lanes;
 
 pub use lane::{LaneEnd, serve_lane};
-pub use lanes::{Lane, Served, Serving, run_lanes};
+pub use lanes::{Lane, Seats, Served, Serving, run_lanes};

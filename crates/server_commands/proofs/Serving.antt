@@ -82,20 +82,20 @@ over_status memory spent failed links d (inr (inl fault)) = inr (inl (fault.0, f
 over_status memory spent failed links d (inr (inr full)) = inr (inr (inl full))
 
 -- what the lanes left, and doors that were handed back
-pub doors_served : (counts : ServeCounts) (host host' : HostSeen) (s : Service) (first book : BookState) (count : ℕ) (doors : List DoorSeen) (failed memory : Bool)
-    (spent : Option ℕ) (ended : Ended) → s ≡ service_of counts host → first.settings ≡ s.settings → count ≡ counts.lanes → book.settings ≡ first.settings
+pub doors_served : (counts : ServeCounts) (host host' : HostSeen) (s : Service) (book : BookState) (count : ℕ) (doors : List DoorSeen) (failed memory : Bool)
+    (spent : Option ℕ) (ended : Ended) → s ≡ service_of counts host → count ≡ counts.lanes → book.settings ≡ s.settings
     → All (DoorServed s book.journal) doors → map (λ (d : DoorSeen). d.number) doors ≡ numbers_from 0 count → AreOfLanes count book.journal
     → All (IsOver counts.links failed) doors → failed ≡ some_failed doors → (some_lacked doors ≡ true → memory ≡ true) → (some_spent doors ≡ true → IsSome spent)
     → (left_all book.settings.projects book.journal ≡ 0) ⊎ ((memory ≡ true) ⊎ IsSome spent) → Closes doors host host' → EndsAs book failed memory spent ended
     → ServesDoors counts host host' ended
-doors_served counts host host' s first book count doors failed memory spent ended service stated lanes settings served numbers entries over failed_is lacked turns work closes is =
+doors_served counts host host' s book count doors failed memory spent ended service lanes settings served numbers entries over failed_is lacked turns work closes is =
     let status = status_by memory spent failed in
     let status_is : ended.status ≡ status = ap (λ (e : Ended). e.status) is in
     let closed : doors ≡ host'.closed = sym (ap (λ (h : HostSeen). h.closed) closes.others) in
     let all : ServesAll counts host host' book status = record {
       others = subst (λ (ds : List DoorSeen). host' ≡ record host { closings = counted host.closings; closed = ds; faults = host'.faults }) closed closes.others;
       numbers = subst (λ (ds : List DoorSeen). map (λ (d : DoorSeen). d.number) ds ≡ numbers_from 0 counts.lanes) closed (numbers ∙ ap (numbers_from 0) lanes);
-      settings = settings ∙ stated ∙ ap (λ (x : Service). x.settings) service;
+      settings = settings ∙ ap (λ (x : Service). x.settings) service;
       doors = subst (λ (ds : List DoorSeen). All (DoorServed (service_of counts host) book.journal) ds) closed
           (subst (λ (x : Service). All (DoorServed x book.journal) doors) service served);
       entries = subst (λ n. AreOfLanes n book.journal) lanes entries;
@@ -110,7 +110,7 @@ doors_served counts host host' s first book count doors failed memory spent ende
       buckets = left_status memory spent failed (left_all book.settings.projects book.journal) work;
     } in
     let rose : status ≡ 4 → Rose host.faults host'.faults = λ four. closes.failed (sym failed_is ∙ four_failed memory spent failed four) in
-    inl (book, ap (λ (e : Ended). e.book) is, subst (λ n. ServesAll counts host host' book n) (sym status_is) all, λ four. rose (sym status_is ∙ four))
+    (book, ap (λ (e : Ended). e.book) is, subst (λ n. ServesAll counts host host' book n) (sym status_is) all, λ four. rose (sym status_is ∙ four))
 
 -- ---- doors that are opened
 
@@ -136,8 +136,7 @@ pub without_four : (host host' : HostSeen) (ended : Ended) (status : ℕ) → (s
 without_four host host' ended status other is four = absurd (other (sym (ap (λ (e : Ended). e.status) is) ∙ four))
 
 pub served_fault : (said : ServeWords) (host host' : HostSeen) (ended : Ended) → Serves said host host' ended → ended.status ≡ 4 → Rose host.faults host'.faults
-served_fault said host host' ended (inl (open_, opens, inl all)) four = subst (λ n. Rose n host'.faults) (ap (λ (h : HostSeen). h.faults) opens) (all.3 four)
-served_fault said host host' ended (inl (open_, opens, inr lacks)) four = without_four host host' ended 6 (λ e. omega (arith, e)) lacks.0 four
+served_fault said host host' ended (inl (open_, opens, all)) four = subst (λ n. Rose n host'.faults) (ap (λ (h : HostSeen). h.faults) opens) (all.3 four)
 served_fault said host host' ended (inr (inl failed)) four = failed.2
 served_fault said host host' ended (inr (inr lacks)) four = without_four host host' ended 6 (λ e. omega (arith, e)) lacks.0 four
 
@@ -155,8 +154,7 @@ of_known n (inr (inr (inr seven))) other (inr five) is = omega (arith, seven, fi
 
 served_known : (said : ServeWords) (host host' : HostSeen) (ended : Ended) → Serves said host host' ended
     → (ended.status ≡ 0) ⊎ ((ended.status ≡ 4) ⊎ ((ended.status ≡ 6) ⊎ (ended.status ≡ 7)))
-served_known said host host' ended (inl (open_, opens, inl all)) = all.2.known
-served_known said host host' ended (inl (open_, opens, inr lacks)) = inr (inr (inl (ap (λ (e : Ended). e.status) lacks.0)))
+served_known said host host' ended (inl (open_, opens, all)) = all.2.known
 served_known said host host' ended (inr (inl failed)) = inr (inl (ap (λ (e : Ended). e.status) failed.0))
 served_known said host host' ended (inr (inr lacks)) = inr (inr (inl (ap (λ (e : Ended). e.status) lacks.0)))
 

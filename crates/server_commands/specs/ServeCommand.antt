@@ -73,16 +73,15 @@ pub record ServesAll (counts : ServeCounts) (host host' : HostSeen) (book : Book
   pub known : (status ≡ 0) ⊎ ((status ≡ 4) ⊎ ((status ≡ 6) ⊎ (status ≡ 7)))
   pub buckets : (left_all book.settings.projects book.journal ≡ 0) ⊎ ((status ≡ 6) ⊎ (status ≡ 7))
 
--- memory ran out before the first connection was accepted
+-- memory ran out before a door was opened
 abbrev pub LacksLanes : HostSeen → HostSeen → Ended → Type 0
 LacksLanes host host' ended = (ended ≡ without_book 6) × (host' ≡ host)
 
--- doors that were opened were served, or memory ran out before
+-- doors that were opened were served, and the book is given back
 abbrev pub ServesDoors : ServeCounts → HostSeen → HostSeen → Ended → Type 0
 ServesDoors counts host host' ended =
-    ((book : BookState) × (ended.book ≡ Some book) × ServesAll counts host host' book ended.status
-    × (ended.status ≡ 4 → Rose host.faults host'.faults))
-    ⊎ LacksLanes host host' ended
+    (book : BookState) × (ended.book ≡ Some book) × ServesAll counts host host' book ended.status
+    × (ended.status ≡ 4 → Rose host.faults host'.faults)
 
 -- as many doors as the words say are opened at the address that they say, and nothing else happens
 abbrev pub OpensBy : ServeWords → HostSeen → HostSeen → Type 0

@@ -14,7 +14,7 @@ use book_history::Limits;
 use book_turn::call_fault::SpentPass;
 use book_turn::limits::MOST_PASSES;
 use federation_book::Book;
-use serve_lanes::{Served, Serving, run_lanes};
+use serve_lanes::{Seats, Served, Serving, run_lanes};
 use std::alloc::{AllocError, Global};
 use std::marker::Brand;
 use std::sync::Wait;
@@ -99,7 +99,7 @@ fn serve_doors<
     rt: &R,
     alloc: Global,
     counts: ServeCounts,
-    book: Book,
+    seats: Seats<D, C>,
     doors: Vec<D>,
     clocks: Vec<C>,
     gate: &G,
@@ -109,39 +109,24 @@ where
     D::S: Send,
     D::K: Send,
     requires service { K.service ≡ service_of counts (H.seen host.old) }
-    requires empty { book.journal ≡ [] }
-    requires settings { book.settings ≡ K.service.settings }
+    requires seats { seats ≡ record { lanes = counts.lanes; settings = K.service.settings } }
     requires count { vec_len doors ≡ counts.lanes }
-    requires few { vec_len doors + counts.workers < MOST_PASSES }
     requires new { AreNew K.service.tells 0 (map D.seen doors.items) }
     requires clocks { vec_len clocks ≡ vec_len doors }
     requires one { All (λ c. TellsOne K.service.one (C.seen c).one) clocks.items }
     ensures served { ServesDoors counts (H.seen host.old) (H.seen host.new) result }
     ensures spent { (result.status ≡ 7) ↔ IsSome result.spent }
 {
-    match run_lanes::<K, R, D, C, G>(
-        rt,
-        alloc,
+    let served = run_lanes::<K, R, D, C, G>(rt, alloc, seats, doors, clocks, gate, counts.links);
+    let Served {
         book,
         doors,
-        clocks,
-        counts.workers,
-        gate,
-        counts.links,
-    ) {
-        Ok(served) => {
-            let Served {
-                book,
-                doors,
-                failed,
-                memory,
-                spent,
-            } = served;
-            host.close_doors(doors);
-            ended_of(book, failed, memory, spent)
-        }
-        Err(_) => Ended::of(6),
-    }
+        failed,
+        memory,
+        spent,
+    } = served;
+    host.close_doors(doors);
+    ended_of(book, failed, memory, spent)
 }
 
 // Serves what the words say.
@@ -166,10 +151,13 @@ where
     let Ok(clocks) = clocks_of(alloc, host, counts.lanes) else {
         return Ended::of(6);
     };
+    let Ok(seats) = Seats::new(alloc, book, counts.lanes, counts.workers) else {
+        return Ended::of(6);
+    };
     let gate = host.gate(counts.lanes);
     match host.open_doors(alloc, &said.addr, counts.lanes) {
         Ok(doors) => serve_doors::<Brand, R, D, C, G, H>(
-            rt, alloc, counts, book, doors, clocks, &gate, host,
+            rt, alloc, counts, seats, doors, clocks, &gate, host,
         ),
         Err(HostFault::Failed) => Ended::of(4),
         Err(HostFault::Memory) => Ended::of(6),

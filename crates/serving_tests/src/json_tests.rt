@@ -1,9 +1,10 @@
 //! What routes answer, against texts written by hand. Clashes are written by the sessions of the tests of `bim_server`.
 use bim_model::{Many, Rules, Shared, Snapshot, UploadFault};
 use clash_rules::RuleFault;
-use coord_json::{
-    changed_out, error_full, error_newest, error_out, error_place, error_store, error_turn,
-    error_version, pending_out, rule_fault_out, upload_fault_out, version_out,
+use coord_json::{changed_out, pending_out, version_out};
+use error_json::{
+    error_full, error_newest, error_out, error_place, error_store, error_turn, error_version,
+    rule_fault_out, upload_fault_out,
 };
 use serde_json::Value;
 use std::alloc::{AllocError, Global};

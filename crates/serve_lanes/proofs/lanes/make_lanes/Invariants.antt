@@ -1,4 +1,4 @@
-use Rattle.std.proofs.Common.{◌≡◌, ◌+◌, length, vec_len, map, All}
+use Rattle.std.proofs.Common.{◌≡◌, ◌+◌, ◌≤◌, length, vec_len, vec_capacity, map, All}
 use Rattle.std.specs.VecDeque.{deque_len}
 use Rattle.bim_net.specs.Hosts.{AreNew}
 use Rattle.book_turn.specs.NumberLists.{numbers_from}
@@ -9,6 +9,7 @@ use Rattle.serve_lanes.proofs.lanes.make_lanes.Given as goal
 abbrev pub invariant-loop-pass : goal.invariant-loop-pass
 invariant-loop-pass g l = record {
   count : vec_len l.lanes + length l.passes.items ≡ vec_len l.fn.doors;
+  room : vec_len l.fn.doors ≤ vec_capacity l.lanes;
   passes : l.passes.items ≡ new_passes l.fn.turn (vec_len l.lanes) (length l.passes.items);
   doors : AreNew g.K.Serving.service.tells (vec_len l.lanes) (map g.D.Door.seen l.doors.items);
   as_doors : length l.doors.items ≡ length l.passes.items;

@@ -10,13 +10,6 @@ returns-in_default-clause-spent g c = none_spent 6 c.of.result (λ e. omega (ari
 pub returns-in_default-clocks_of-clause-spent : goal.returns-in_default-clocks_of-clause-spent
 returns-in_default-clocks_of-clause-spent g c = none_spent 6 c.of-in_default-clocks_of.result (λ e. omega (arith, e)) c.of-in_default-clocks_of.ensures
 
-pub serve_doors-requires-clause-few : goal.serve_doors-requires-clause-few
-serve_doors-requires-clause-few g c κs within =
-    let count = c.in-Ok-open_doors.ensures.count in
-    let lanes = c.requires.few_lanes in
-    let workers = c.requires.few_workers in
-    omega (arith, count, lanes, workers)
-
 pub serve_doors-requires-clause-new : goal.serve_doors-requires-clause-new
 serve_doors-requires-clause-new g c κs within =
     let told = same_told _ (g.H.Host.seen c.args.host.now) (g.H.Host.seen c.gate-gate.new.self) (g.H.Host.seen c.open_doors.new.self)

@@ -1,7 +1,7 @@
 //! The faults of an upload and of clash rules as JSON values.
 ghost use Rattle.std.specs.Prelude.{◌≡◌, IfOk};
 ghost use Rattle.serde_json.specs.View.{view};
-ghost use Rattle.coord_json.specs.FaultTrees.{fields_tree, upload_fault_tree, rule_fault_tree};
+ghost use Rattle.error_json.specs.FaultTrees.{fields_tree, upload_fault_tree, rule_fault_tree};
 
 use crate::errors::{
     error_at, error_count, error_index, error_many, error_of, error_out, error_to,

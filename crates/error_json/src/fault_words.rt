@@ -1,6 +1,6 @@
 //! The code, the name and the fields of each fault of an upload and of clash rules. Whoever prints a fault asks here.
 ghost use Rattle.std.specs.Prelude.{◌≡◌};
-ghost use Rattle.coord_json.specs.FaultWords.{many_word, upload_code, upload_name, upload_fields, rule_code, rule_name, rule_fields};
+ghost use Rattle.error_json.specs.FaultWords.{many_word, upload_code, upload_name, upload_fields, rule_code, rule_name, rule_fields};
 
 use bim_model::{Many, UploadFault};
 use clash_rules::RuleFault;

@@ -1,7 +1,7 @@
 //! Errors as JSON values: a code, the code and its name, and the fields of the fault.
 ghost use Rattle.std.specs.Prelude.{◌≡◌, ◌++◌, codes, string_bytes, IfOk};
 ghost use Rattle.serde_json.specs.View.{view};
-ghost use Rattle.coord_json.specs.Errors.{message, error_tree, error_at, error_of, error_to, error_many, error_named, error_index, error_count, error_full, error_place, error_turn, error_store, error_newest, error_version};
+ghost use Rattle.error_json.specs.Errors.{message, error_tree, error_at, error_of, error_to, error_many, error_named, error_index, error_count, error_full, error_place, error_turn, error_store, error_newest, error_version};
 
 use serde_json::{Value, json};
 use std::alloc::{AllocError, Global};

@@ -6,8 +6,8 @@ use Rattle.bim_model.specs.declared.upload.UploadFault.{UploadFault}
 use Rattle.bim_model.specs.declared.upload.UploadFault.TheVariants as fault
 use Rattle.clash_rules.specs.declared.rule_fault.RuleFault.{RuleFault}
 use Rattle.clash_rules.specs.declared.rule_fault.RuleFault.TheVariants.{TooManyRules, BadRule, Distance}
-use Rattle.coord_json.specs.declared.fault_words.FaultFields.{FaultFields}
-use Rattle.coord_json.specs.declared.fault_words.FaultFields.TheVariants.{Bare, Place, Id, Reference, What, Index, Count}
+use Rattle.error_json.specs.declared.fault_words.FaultFields.{FaultFields}
+use Rattle.error_json.specs.declared.fault_words.FaultFields.TheVariants.{Bare, Place, Id, Reference, What, Index, Count}
 
 -- what is too many
 abbrev pub many_word : Many → List ℕ

@@ -3,10 +3,10 @@ use Rattle.std.specs.Prelude.{ℕ, List}
 use Rattle.serde_json.specs.Data.{Data}
 use Rattle.bim_model.specs.declared.upload.UploadFault.{UploadFault}
 use Rattle.clash_rules.specs.declared.rule_fault.RuleFault.{RuleFault}
-use Rattle.coord_json.specs.declared.fault_words.FaultFields.{FaultFields}
-use Rattle.coord_json.specs.declared.fault_words.FaultFields.TheVariants.{Bare, Place, Id, Reference, What, Index, Count}
-use Rattle.coord_json.specs.FaultWords.{many_word, upload_code, upload_name, upload_fields, rule_code, rule_name, rule_fields}
-use Rattle.coord_json.specs.Errors.{error_tree, error_at, error_of, error_to, error_many, error_index, error_count}
+use Rattle.error_json.specs.declared.fault_words.FaultFields.{FaultFields}
+use Rattle.error_json.specs.declared.fault_words.FaultFields.TheVariants.{Bare, Place, Id, Reference, What, Index, Count}
+use Rattle.error_json.specs.FaultWords.{many_word, upload_code, upload_name, upload_fields, rule_code, rule_name, rule_fields}
+use Rattle.error_json.specs.Errors.{error_tree, error_at, error_of, error_to, error_many, error_index, error_count}
 
 -- an error by its code, its name and its fields
 abbrev pub fields_tree : List ℕ → List ℕ → FaultFields → Data
