@@ -1,8 +1,7 @@
 use Rattle.book_history.specs.Legal.{IsLegal}
 use Rattle.book_history.specs.Requests.{all_orders, changed, clashes_read, finished, in_project, order_for, outcome_of, removed, version_read}
 use Rattle.book_history.specs.declared.changes.Change.TheVariants as change
-use Rattle.book_history.specs.declared.requests.BookRequest.TheVariants as request
-use Rattle.federation_book.proofs.Acting.{added_is, asked_is, done_as, done_of, number_is, number_there, reply_is, told_as}
+use Rattle.federation_book.proofs.Acting.{added_is, asked_is, done_of, number_is, number_there, reply_is}
 use Rattle.federation_book.proofs.Answering.{clashes_add, read_adds, work_adds}
 use Rattle.federation_book.specs.KeptProjects.{settings_of}
 use Rattle.std.proofs.Common.{ap, length, refl, subst, sym, ◌∙◌}
@@ -77,83 +76,6 @@ returns-in-ReadClashes-clause-done c =
     done_of c.read_clashes.result h c.read_clashes.new.state.entries.items c.args.stamp (outcome_of s h c.args.request)
     (reply_is c.read_clashes.result h (in_project c.project_of-in-ReadClashes.result (clashes_read h c.in-ReadClashes.version c.in-ReadClashes.first c.in-ReadClashes.pairs)) (outcome_of s h c.args.request) (ap (λ n. in_project n (clashes_read h c.in-ReadClashes.version c.in-ReadClashes.first c.in-ReadClashes.pairs)) number ∙ ap (outcome_of s h) (sym c.in-ReadClashes.is)) c.read_clashes.ensures.reply)
     (asked_is c.read_clashes.result h (in_project c.project_of-in-ReadClashes.result (clashes_read h c.in-ReadClashes.version c.in-ReadClashes.first c.in-ReadClashes.pairs)) (outcome_of s h c.args.request) (ap (λ n. in_project n (clashes_read h c.in-ReadClashes.version c.in-ReadClashes.first c.in-ReadClashes.pairs)) number ∙ ap (outcome_of s h) (sym c.in-ReadClashes.is)) c.read_clashes.new.state.entries.items c.args.stamp c.read_clashes.ensures.entries (clashes_add c.args.stamp h c.in-ReadClashes.version c.in-ReadClashes.first c.in-ReadClashes.pairs c.project_of-in-ReadClashes.result))
-
-pub returns-in-ClashTopic-clause-done : goal.returns-in-ClashTopic-clause-done
-returns-in-ClashTopic-clause-done c =
-    done_as c.clash_topic.result (settings_of c.args.state.now) c.args.state.now.entries.items c.clash_topic.new.state.entries.items c.args.stamp c.args.request
-    (request.ClashTopic c.in-ClashTopic.project c.in-ClashTopic.version c.in-ClashTopic.place c.in-ClashTopic.author c.in-ClashTopic.weight) c.in-ClashTopic.is c.clash_topic.ensures.done
-
-pub returns-in-ListTopics-clause-done : goal.returns-in-ListTopics-clause-done
-returns-in-ListTopics-clause-done c =
-    told_as c.list_topics.result (settings_of c.args.state.now) c.args.state.now.entries.items c.args.stamp c.args.request (request.ListTopics c.in-ListTopics.project) c.in-ListTopics.is c.list_topics.ensures
-
-pub returns-in-ReadTopic-clause-done : goal.returns-in-ReadTopic-clause-done
-returns-in-ReadTopic-clause-done c =
-    told_as c.read_topic.result (settings_of c.args.state.now) c.args.state.now.entries.items c.args.stamp c.args.request (request.ReadTopic c.in-ReadTopic.project c.in-ReadTopic.topic) c.in-ReadTopic.is c.read_topic.ensures
-
-pub returns-in-PostTopic-clause-done : goal.returns-in-PostTopic-clause-done
-returns-in-PostTopic-clause-done c =
-    done_as c.post_topic.result (settings_of c.args.state.now) c.args.state.now.entries.items c.post_topic.new.state.entries.items c.args.stamp c.args.request
-    (request.PostTopic c.in-PostTopic.project c.in-PostTopic.body c.in-PostTopic.author c.in-PostTopic.weight) c.in-PostTopic.is c.post_topic.ensures.done
-
-pub returns-in-PutTopic-clause-done : goal.returns-in-PutTopic-clause-done
-returns-in-PutTopic-clause-done c =
-    done_as c.put_topic.result (settings_of c.args.state.now) c.args.state.now.entries.items c.put_topic.new.state.entries.items c.args.stamp c.args.request
-    (request.PutTopic c.in-PutTopic.project c.in-PutTopic.topic c.in-PutTopic.body c.in-PutTopic.author c.in-PutTopic.weight) c.in-PutTopic.is c.put_topic.ensures.done
-
-pub returns-in-DeleteTopic-clause-done : goal.returns-in-DeleteTopic-clause-done
-returns-in-DeleteTopic-clause-done c =
-    done_as c.delete_topic.result (settings_of c.args.state.now) c.args.state.now.entries.items c.delete_topic.new.state.entries.items c.args.stamp c.args.request
-    (request.DeleteTopic c.in-DeleteTopic.project c.in-DeleteTopic.topic) c.in-DeleteTopic.is c.delete_topic.ensures.done
-
-pub returns-in-ListComments-clause-done : goal.returns-in-ListComments-clause-done
-returns-in-ListComments-clause-done c =
-    told_as c.list_comments.result (settings_of c.args.state.now) c.args.state.now.entries.items c.args.stamp c.args.request (request.ListComments c.in-ListComments.project c.in-ListComments.topic) c.in-ListComments.is c.list_comments.ensures
-
-pub returns-in-ReadComment-clause-done : goal.returns-in-ReadComment-clause-done
-returns-in-ReadComment-clause-done c =
-    told_as c.read_comment.result (settings_of c.args.state.now) c.args.state.now.entries.items c.args.stamp c.args.request (request.ReadComment c.in-ReadComment.project c.in-ReadComment.topic c.in-ReadComment.comment) c.in-ReadComment.is c.read_comment.ensures
-
-pub returns-in-PostComment-clause-done : goal.returns-in-PostComment-clause-done
-returns-in-PostComment-clause-done c =
-    done_as c.post_comment.result (settings_of c.args.state.now) c.args.state.now.entries.items c.post_comment.new.state.entries.items c.args.stamp c.args.request
-    (request.PostComment c.in-PostComment.project c.in-PostComment.topic c.in-PostComment.body c.in-PostComment.author c.in-PostComment.weight) c.in-PostComment.is c.post_comment.ensures.done
-
-pub returns-in-PutComment-clause-done : goal.returns-in-PutComment-clause-done
-returns-in-PutComment-clause-done c =
-    done_as c.put_comment.result (settings_of c.args.state.now) c.args.state.now.entries.items c.put_comment.new.state.entries.items c.args.stamp c.args.request
-    (request.PutComment c.in-PutComment.project c.in-PutComment.topic c.in-PutComment.comment c.in-PutComment.body c.in-PutComment.author c.in-PutComment.weight) c.in-PutComment.is c.put_comment.ensures.done
-
-pub returns-in-DeleteComment-clause-done : goal.returns-in-DeleteComment-clause-done
-returns-in-DeleteComment-clause-done c =
-    done_as c.delete_comment.result (settings_of c.args.state.now) c.args.state.now.entries.items c.delete_comment.new.state.entries.items c.args.stamp c.args.request
-    (request.DeleteComment c.in-DeleteComment.project c.in-DeleteComment.topic c.in-DeleteComment.comment) c.in-DeleteComment.is c.delete_comment.ensures.done
-
-pub returns-in-ListViews-clause-done : goal.returns-in-ListViews-clause-done
-returns-in-ListViews-clause-done c =
-    told_as c.list_views.result (settings_of c.args.state.now) c.args.state.now.entries.items c.args.stamp c.args.request (request.ListViews c.in-ListViews.project c.in-ListViews.topic) c.in-ListViews.is c.list_views.ensures
-
-pub returns-in-ReadView-clause-done : goal.returns-in-ReadView-clause-done
-returns-in-ReadView-clause-done c =
-    told_as c.read_view.result (settings_of c.args.state.now) c.args.state.now.entries.items c.args.stamp c.args.request (request.ReadView c.in-ReadView.project c.in-ReadView.topic c.in-ReadView.view) c.in-ReadView.is c.read_view.ensures
-
-pub returns-in-PostView-clause-done : goal.returns-in-PostView-clause-done
-returns-in-PostView-clause-done c =
-    done_as c.post_view.result (settings_of c.args.state.now) c.args.state.now.entries.items c.post_view.new.state.entries.items c.args.stamp c.args.request
-    (request.PostView c.in-PostView.project c.in-PostView.topic c.in-PostView.body c.in-PostView.weight) c.in-PostView.is c.post_view.ensures.done
-
-pub returns-in-DeleteView-clause-done : goal.returns-in-DeleteView-clause-done
-returns-in-DeleteView-clause-done c =
-    done_as c.delete_view.result (settings_of c.args.state.now) c.args.state.now.entries.items c.delete_view.new.state.entries.items c.args.stamp c.args.request
-    (request.DeleteView c.in-DeleteView.project c.in-DeleteView.topic c.in-DeleteView.view) c.in-DeleteView.is c.delete_view.ensures.done
-
-pub returns-in-ListProjects-clause-done : goal.returns-in-ListProjects-clause-done
-returns-in-ListProjects-clause-done c =
-    told_as c.list_projects.result (settings_of c.args.state.now) c.args.state.now.entries.items c.args.stamp c.args.request request.ListProjects c.in-ListProjects.is c.list_projects.ensures
-
-pub returns-in-ReadProject-clause-done : goal.returns-in-ReadProject-clause-done
-returns-in-ReadProject-clause-done c =
-    told_as c.read_project.result (settings_of c.args.state.now) c.args.state.now.entries.items c.args.stamp c.args.request (request.ReadProject c.in-ReadProject.project) c.in-ReadProject.is c.read_project.ensures
 
 pub returns-in-TakeWork-clause-done : goal.returns-in-TakeWork-clause-done
 returns-in-TakeWork-clause-done c =
