@@ -116,6 +116,9 @@ class Directed:
             yield Asked(method, data, code_status, code)
         gzip = replace(good, fields=(("Content-Encoding", "gzip"),))
         yield Asked(method, gzip.bytes(), 415, "H12")
+        for turn, turn_status, turn_code in (("x", 400, "H13"), ("9" * 15, 409, "K13")):
+            above = replace(good, fields=(("X-Book-Turn", turn),))
+            yield Asked(method, above.bytes(), turn_status, turn_code)
         if operation.of("query"):
             part = operation.of("query")[0]["name"]
             bad = replace(good, target=f"{good.target}?{part}=")

@@ -36,6 +36,7 @@ HINTS = {
     "K8": "the elements are too large or too many for their space: split the project",
     "K9": "the server's journal is full until it is started anew: ask who runs it",
     "K12": "the version has no clash at that place: yulfrets clashes",
+    "K13": "the server hasn't come to that turn: ask again later",
     "B5": "the server has 10,000 topics: delete some",
     "B6": "the server has 100,000 comments: delete some",
     "B9": "the server has 20,000 viewpoints: delete some",

@@ -66,6 +66,7 @@ class Asked:
     resource: Resource
     method: str
     user: str
+    seen: int | None  # the turn that the request gives
     body: Any
     query: dict[bytes, bytes]
 
@@ -161,10 +162,12 @@ def answer(book: Book, request: Request) -> Answer:
         return Refused("H12", "Encoding", 415).answer()
     try:
         query = query_of(resource.kind, target)
+        if request.bad_turn:
+            raise Refused("H13", "TurnField", 400)
         body = body_of(resource.kind, method, request.body, query)
     except Refused as fault:
         return fault.answer()
-    return in_turn(book, Asked(resource, method, request.user, body, query))
+    return in_turn(book, Asked(resource, method, request.user, request.seen, body, query))
 
 
 def project_tree(number: int) -> Tree:
@@ -174,6 +177,8 @@ def project_tree(number: int) -> Tree:
 def in_turn(book: Book, asked: Asked) -> Answer:
     """The answer at the book's turn to a request whose form is right."""
     kind, ids = asked.resource.kind, asked.resource.ids
+    if asked.seen is not None and asked.seen > book.turn:
+        return book.booked(409, error("K13", "TurnAhead", given=asked.seen, turn=book.turn + 1))
     if kind == "projects":
         return book.booked(200, [project_tree(n) for n in sorted(book.boards)])
     number = book.project(ids[0])
@@ -253,7 +258,8 @@ def on_versions(book: Book, number: int, asked: Asked) -> Answer:
     if asked.resource.kind == "clash topic":
         return clash_topic(book, number, version, asked)
     tree = page(version, wanted, asked.query)
-    if (number, wanted) in book.shelf and named != "newest":
+    is_known = asked.seen is None or asked.seen <= book.printed
+    if (number, wanted) in book.shelf and named != "newest" and is_known:
         return 200, tree, book.printed, []
     book.shelf.add((number, wanted))
     return book.booked(200, tree)

@@ -27,6 +27,8 @@ class Request:
     user: str
     close: bool
     encoded: bool
+    seen: int | None  # the turn that it gives, if it gives one
+    bad_turn: bool  # whether its field of the turn is a fault
     continues: bool  # whether 100 Continue comes before its answer
     after: int  # where its body begins
     most: int  # the longest body that it may have
@@ -176,6 +178,16 @@ def user_in(fields: Fields) -> str:
     return "anonymous"
 
 
+def turn_in(fields: Fields) -> tuple[int | None, bool]:
+    """The turn that a head gives, if it gives one, and whether its field is bad."""
+    turns = values(fields, b"x-book-turn")
+    if not turns:
+        return None, False
+    if len(turns) > 1 or not re.fullmatch(rb"[0-9]{1,15}", turns[0]):
+        return None, True
+    return int(turns[0]), False
+
+
 def read_request(data: bytes, start: int) -> Request:
     """The request at a place, without its body."""
     match, after = first_line(data, start)
@@ -187,6 +199,7 @@ def read_request(data: bytes, start: int) -> Request:
         o.strip(b" \t").lower() for v in values(fields, b"connection") for o in v.split(b",")
     ]
     has_body = length is not None or chunked
+    seen, bad_turn = turn_in(fields)
     expects = any(v.lower() == b"100-continue" for v in values(fields, b"expect"))
     return Request(
         method=method,
@@ -194,6 +207,8 @@ def read_request(data: bytes, start: int) -> Request:
         user=user_in(fields),
         close=minor == 0 or b"close" in options,
         encoded=any(v.lower() != b"identity" for v in values(fields, b"content-encoding")),
+        seen=seen,
+        bad_turn=bad_turn,
         continues=minor == 1 and has_body and expects,
         after=at,
         most=most,

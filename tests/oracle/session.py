@@ -15,6 +15,7 @@ PHRASES = {
     200: "OK",
     201: "Created",
     202: "Accepted",
+    409: "Conflict",
     410: "Gone",
     400: "Bad Request",
     404: "Not Found",

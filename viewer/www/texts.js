@@ -216,6 +216,7 @@ export const TEXTS = {
   'fault-K8': ['The version would be spread too widely.', 'Die Version wäre zu weit verteilt.'],
   'fault-K9': ['The server\'s journal is full.', 'Das Journal des Servers ist voll.'],
   'fault-K12': ['There is no such clash.', 'Diese Kollision gibt es nicht.'],
+  'fault-K13': ['The server hasn\'t come to that turn yet.', 'So weit ist der Server noch nicht.'],
   'fault-C1': ['A rule has a value that it can\'t have: see the marked row.', 'Eine Regel hat einen Wert, den sie nicht haben kann: siehe die markierte Zeile.'],
   'fault-C2': ['There are more than 200 rules.', 'Es sind mehr als 200 Regeln.'],
   'fault-C3': ['A distance must be 0 to 1,000 mm: see the marked row.', 'Ein Abstand muss 0 bis 1.000 mm sein: siehe die markierte Zeile.'],

@@ -16,9 +16,9 @@ use Rattle.bcf_bodies.specs.CommentTrees.{IsCommentTree}
 use Rattle.bcf_bodies.specs.ViewTrees.{whole_tree}
 use Rattle.coord_json.specs.RuleTrees.{rule_items}
 use Rattle.coord_json.proofs.Floats.{version_has_none, models_have_none, rules_have_none, changed_has_none, clashes_have_none, pending_has_none}
-use Rattle.error_json.proofs.ErrorFloats.{error_has_none, named_has_none, full_has_none, place_has_none, store_has_none, newest_has_none, dropped_has_none, upload_has_none, rule_fault_has_none}
+use Rattle.error_json.proofs.ErrorFloats.{error_has_none, named_has_none, full_has_none, place_has_none, turn_has_none, store_has_none, newest_has_none, dropped_has_none, upload_has_none, rule_fault_has_none}
 use Rattle.bcf_http.specs.declared.asked.RequestFault.{RequestFault}
-use Rattle.bcf_http.specs.declared.asked.RequestFault.TheVariants.{NoRoute, Method, Encoding, Query, BadJson, Rules, Body}
+use Rattle.bcf_http.specs.declared.asked.RequestFault.TheVariants.{NoRoute, Method, Encoding, Query, BadTurn, BadJson, Rules, Body}
 use Rattle.http_frame.specs.declared.types.FrameFault.{FrameFault}
 use Rattle.http_frame.specs.declared.types.FrameFault.TheVariants as frame
 use Rattle.bcf_http.specs.declared.answers.Answer.{Answer}
@@ -47,6 +47,7 @@ refusal_has_none (refusal.JournalFull count limit) = full_has_none _ _ count lim
 refusal_has_none refusal.AlreadyDone = error_has_none _ _
 refusal_has_none refusal.NoWork = error_has_none _ _
 refusal_has_none (refusal.NoClash place total) = place_has_none _ _ place total
+refusal_has_none (refusal.TurnAhead given turn) = turn_has_none _ _ given turn
 refusal_has_none refusal.NoTopic = error_has_none _ _
 refusal_has_none refusal.NoComment = error_has_none _ _
 refusal_has_none (refusal.TopicsFull count limit) = full_has_none _ _ count limit
@@ -80,6 +81,7 @@ fault_has_none NoRoute = error_has_none _ _
 fault_has_none (Method row) = error_has_none _ _
 fault_has_none Encoding = error_has_none _ _
 fault_has_none (Query name) = named_has_none _ _ _
+fault_has_none BadTurn = error_has_none _ _
 fault_has_none BadJson = error_has_none _ _
 fault_has_none (Rules fault) = rule_fault_has_none fault
 fault_has_none (Body fault) = body_fault_has_none fault

@@ -4,3 +4,4 @@ pub mod BodyFloats
 pub mod Floats
 pub mod Plain
 pub mod Projects
+pub mod BadTurns

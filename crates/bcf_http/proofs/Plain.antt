@@ -4,9 +4,12 @@ use Rattle.bim_model.specs.declared.upload.Mode.{Mode}
 use Rattle.bim_model.specs.declared.rules.Rule.{Rule}
 use Rattle.book_history.specs.declared.requests.Wanted.{Wanted}
 use Rattle.http_frame.specs.declared.types.HttpRequest.{HttpRequest}
+use Rattle.http_frame.specs.declared.types.TurnField.{TurnField}
+use Rattle.http_frame.specs.declared.types.TurnField.TheVariants as turn
 use Rattle.http_routes.specs.declared.query.QueryName.{QueryName}
 use Rattle.http_routes.specs.declared.query.Page.{Page}
 use Rattle.bcf_http.specs.declared.asked.RequestFault.{RequestFault}
+use Rattle.bcf_http.specs.declared.asked.RequestFault.TheVariants.{NoRoute, Method, Encoding, Query}
 use Rattle.bcf_http.specs.declared.asked.Refusal.{Refusal}
 use Rattle.bcf_http.specs.declared.asked.Refusal.TheVariants.{Fault, Memory}
 use Rattle.bcf_http.specs.declared.asked.Action.{Action}
@@ -21,7 +24,7 @@ use Rattle.http_routes.specs.Queries.{grid_asked, page_asked}
 use Rattle.http_routes.specs.declared.resource.TopicPlace.{TopicPlace}
 use Rattle.http_routes.specs.declared.resource.TopicPlace.TheVariants as place
 use Rattle.http_routes.specs.Resources.{Place, projects, project, topics, of_topic, model, rules, version, clashes, clash, place_of}
-use Rattle.bcf_http.specs.Asked.{object_of, is_method, asked_as, call_with, topics_call, topic_call, comments_call, comment_call, views_call, call_of_topic, model_asked, model_asked_by, rules_asked, rules_call, clashes_call, place_asked, judged, asked_at, asked_by, IsAskedAs, BringsNone, AsksNone}
+use Rattle.bcf_http.specs.Asked.{object_of, is_method, asked_as, call_with, topics_call, topic_call, comments_call, comment_call, views_call, call_of_topic, model_asked, model_asked_by, rules_asked, rules_call, clashes_call, place_asked, judged, asked_at, asked_without_turn, with_bad_turn, with_turn, asked_by, IsAskedAs, BringsNone, AsksNone}
 
 abbrev AllNone : Result Action RequestFault → Type 0
 AllNone r = IfOk r AsksNone
@@ -104,9 +107,26 @@ asked_at_none : (moment : ℕ) (request : HttpRequest) (named : Result Place Req
 asked_at_none moment request (Ok place) = at_none moment request place
 asked_at_none moment request (Err fault) = tt
 
+-- a bad turn asks for nothing
+bad_turn_none : (r : Result Action RequestFault) → AllNone (with_bad_turn r)
+bad_turn_none (Ok call) = tt
+bad_turn_none (Err NoRoute) = tt
+bad_turn_none (Err (Method row)) = tt
+bad_turn_none (Err Encoding) = tt
+bad_turn_none (Err (Query name)) = tt
+bad_turn_none (Err _) = tt
+
+turn_none : (seen : TurnField) (r : Result Action RequestFault) → AllNone r → AllNone (with_turn seen r)
+turn_none turn.Bad r none = bad_turn_none r
+turn_none _ r none = none
+
+without_turn_none : (moment : ℕ) (request : HttpRequest) → AllNone (asked_without_turn moment request)
+unfolding asked_without_turn
+without_turn_none moment request = asked_at_none moment request (judged request (place_of request.target))
+
 all_none : (moment : ℕ) (request : HttpRequest) → AllNone (asked_by moment request)
 unfolding asked_by
-all_none moment request = asked_at_none moment request (judged request (place_of request.target))
+all_none moment request = turn_none request.seen (asked_without_turn moment request) (without_turn_none moment request)
 
 pub asked_none : (moment : ℕ) (request : HttpRequest) (r : Result Action Refusal) → IsAskedAs r (asked_by moment request) → IfOk r AsksNone
 asked_none moment request (Ok call) is = subst AllNone is (all_none moment request)

@@ -17,7 +17,7 @@ use Rattle.bcf_bodies.specs.TopicTrees.{IsTopicTree}
 use Rattle.bcf_bodies.specs.CommentTrees.{IsCommentTree}
 use Rattle.bcf_bodies.specs.ViewTrees.{whole_tree, view_tree}
 use Rattle.bcf_http.specs.declared.asked.RequestFault.{RequestFault}
-use Rattle.bcf_http.specs.declared.asked.RequestFault.TheVariants.{NoRoute, Method, Encoding, Query, BadJson, Rules, Body}
+use Rattle.bcf_http.specs.declared.asked.RequestFault.TheVariants.{NoRoute, Method, Encoding, Query, BadTurn, BadJson, Rules, Body}
 use Rattle.http_routes.specs.declared.paths.RoutePath.{RoutePath}
 use Rattle.http_routes.specs.declared.query.QueryName.{QueryName}
 use Rattle.http_routes.specs.declared.query.QueryName.TheVariants.{Grid, First, Count}
@@ -26,7 +26,7 @@ use Rattle.http_frame.specs.declared.types.FrameFault.TheVariants as frame
 use Rattle.bcf_http.specs.declared.reply_kind.ReplyKind.{ReplyKind}
 use Rattle.bcf_http.specs.declared.answers.Answer.{Answer}
 use Rattle.bcf_http.specs.declared.answers.Answer.TheVariants as answer
-use Rattle.error_json.specs.Errors.{error_tree, error_named, error_newest, error_version, error_store, error_full, error_place}
+use Rattle.error_json.specs.Errors.{error_tree, error_named, error_newest, error_version, error_store, error_full, error_place, error_turn}
 use Rattle.error_json.specs.FaultTrees.{upload_fault_tree, rule_fault_tree}
 use Rattle.coord_json.specs.VersionTrees.{changed_tree, IsVersionTree}
 use Rattle.coord_json.specs.ClashTrees.{clashes_tree, pending_tree}
@@ -55,6 +55,7 @@ request_fault_tree NoRoute = error_tree (codes "H7") (codes "NoRoute")
 request_fault_tree (Method row) = error_tree (codes "H8") (codes "Method")
 request_fault_tree Encoding = error_tree (codes "H12") (codes "Encoding")
 request_fault_tree (Query name) = error_named (codes "H11") (codes "Query") (query_text name)
+request_fault_tree BadTurn = error_tree (codes "H13") (codes "TurnField")
 request_fault_tree BadJson = error_tree (codes "H9") (codes "BadJson")
 request_fault_tree (Rules fault) = rule_fault_tree fault
 request_fault_tree (Body fault) = body_fault_tree fault
@@ -85,6 +86,7 @@ book_fault_tree (refusal.JournalFull count limit) = error_full (codes "K9") (cod
 book_fault_tree refusal.AlreadyDone = error_tree (codes "K10") (codes "AlreadyDone")
 book_fault_tree refusal.NoWork = error_tree (codes "K11") (codes "NoWork")
 book_fault_tree (refusal.NoClash place total) = error_place (codes "K12") (codes "NoClash") place total
+book_fault_tree (refusal.TurnAhead given turn) = error_turn (codes "K13") (codes "TurnAhead") given turn
 book_fault_tree refusal.NoTopic = error_tree (codes "B1") (codes "NoTopic")
 book_fault_tree refusal.NoComment = error_tree (codes "B2") (codes "NoComment")
 book_fault_tree (refusal.TopicsFull count limit) = error_full (codes "B5") (codes "TopicsFull") count limit
@@ -154,6 +156,7 @@ refusal_status (refusal.JournalFull count limit) = 507
 refusal_status refusal.AlreadyDone = 404
 refusal_status refusal.NoWork = 404
 refusal_status (refusal.NoClash place total) = 404
+refusal_status (refusal.TurnAhead given turn) = 409
 refusal_status refusal.NoTopic = 404
 refusal_status refusal.NoComment = 404
 refusal_status (refusal.TopicsFull count limit) = 507
@@ -185,6 +188,7 @@ fault_status NoRoute = 404
 fault_status (Method row) = 405
 fault_status Encoding = 415
 fault_status (Query name) = 400
+fault_status BadTurn = 400
 fault_status BadJson = 400
 fault_status (Rules fault) = 422
 fault_status (Body fault) = 422

@@ -12,6 +12,8 @@ use Rattle.clash_rules.specs.declared.rule_fault.RuleFault.{RuleFault}
 use Rattle.clash_rules.specs.Json.{rules_of}
 use Rattle.bucket_check.specs.ClashSets.{SetValue}
 use Rattle.http_frame.specs.declared.types.HttpRequest.{HttpRequest}
+use Rattle.http_frame.specs.declared.types.TurnField.{TurnField}
+use Rattle.http_frame.specs.declared.types.TurnField.TheVariants as turn
 use Rattle.book_history.specs.declared.requests.BookRequest.{BookRequest}
 use Rattle.book_history.specs.declared.requests.BookRequest.TheVariants.{ListProjects, ReadProject, ListTopics, ReadTopic, PostTopic, PutTopic, DeleteTopic, ListComments, ReadComment, PostComment, PutComment, DeleteComment, ListViews, ReadView, PostView, DeleteView, ClashTopic, Remove, SetRules, ReadVersion, ReadClashes, Finish}
 use Rattle.book_history.specs.declared.requests.Wanted.{Wanted}
@@ -26,7 +28,7 @@ use Rattle.http_routes.specs.declared.query.QueryName.{QueryName}
 use Rattle.http_routes.specs.declared.query.QueryName.TheVariants.{Grid}
 use Rattle.http_routes.specs.declared.query.Page.{Page}
 use Rattle.bcf_http.specs.declared.asked.RequestFault.{RequestFault}
-use Rattle.bcf_http.specs.declared.asked.RequestFault.TheVariants.{NoRoute, Method, Encoding, Query, BadJson, Rules, Body}
+use Rattle.bcf_http.specs.declared.asked.RequestFault.TheVariants.{NoRoute, Method, Encoding, Query, BadTurn, BadJson, Rules, Body}
 use Rattle.bcf_http.specs.declared.asked.Refusal.{Refusal}
 use Rattle.bcf_http.specs.declared.asked.Refusal.TheVariants.{Fault, Memory}
 use Rattle.bcf_http.specs.declared.asked.Action.{Action}
@@ -200,9 +202,26 @@ abbrev pub asked_at : ℕ → HttpRequest → Result Place RequestFault → Resu
 asked_at moment request (Ok place) = place_asked moment request place
 asked_at moment request (Err fault) = Err fault
 
+-- what a request asks for at a moment, or its first fault, if the turn that it gives is passed over
+unfoldable pub asked_without_turn : ℕ → HttpRequest → Result Action RequestFault
+asked_without_turn moment request = asked_at moment request (judged request (place_of request.target))
+
+-- the same where that turn is bad: this is the fault, unless the target, the method, the encoding or the query has one
+abbrev pub with_bad_turn : Result Action RequestFault → Result Action RequestFault
+with_bad_turn (Err NoRoute) = Err NoRoute
+with_bad_turn (Err (Method row)) = Err (Method row)
+with_bad_turn (Err Encoding) = Err Encoding
+with_bad_turn (Err (Query name)) = Err (Query name)
+with_bad_turn _ = Err BadTurn
+
+-- the same, by the turn
+abbrev pub with_turn : TurnField → Result Action RequestFault → Result Action RequestFault
+with_turn turn.Bad asked = with_bad_turn asked
+with_turn _ asked = asked
+
 -- what a request asks for at a moment, or the first fault that the request alone decides
 unfoldable pub asked_by : ℕ → HttpRequest → Result Action RequestFault
-asked_by moment request = asked_at moment request (judged request (place_of request.target))
+asked_by moment request = with_turn request.seen (asked_without_turn moment request)
 
 -- the answer is what is meant, or out of memory
 abbrev pub IsAskedAs : Result Action Refusal → Result Action RequestFault → Type 0

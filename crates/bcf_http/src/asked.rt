@@ -1,5 +1,5 @@
 //! What requests ask for.
-ghost use Rattle.std.specs.Prelude.{◌≡◌, length, option_map, IfOk};
+ghost use Rattle.std.specs.Prelude.{◌≡◌, length, option_map, Result, Err, IfOk};
 ghost use Rattle.serde_json.specs.View.{view};
 ghost use Rattle.book_history.specs.declared.requests.BookRequest.TheVariants.{ClashTopic};
 ghost use Rattle.bim_model.specs.Moments.{IsMoment};
@@ -7,7 +7,10 @@ ghost use Rattle.http_routes.specs.Queries.{grid_asked, page_asked};
 ghost use Rattle.http_routes.specs.Targets.{query_of};
 ghost use Rattle.http_routes.specs.Resources.{place_lent};
 ghost use Rattle.bcf_http.specs.ReplyKinds.{kind_of};
-ghost use Rattle.bcf_http.specs.Asked.{object_of, author_of, model_asked, model_asked_by, with_rule_fault, rules_asked, rules_call, clashes_call, judged, asked_by, IsJudged, IsAskedAs, IsMeantAs, AsksNone};
+ghost use Rattle.http_frame.specs.declared.types.TurnField.{TurnField};
+ghost use Rattle.bcf_http.specs.declared.asked.RequestFault.{RequestFault};
+ghost use Rattle.bcf_http.specs.declared.asked.Action.{Action};
+ghost use Rattle.bcf_http.specs.Asked.{object_of, author_of, model_asked, model_asked_by, with_rule_fault, rules_asked, rules_call, clashes_call, judged, asked_without_turn, asked_by, with_bad_turn, with_turn, IsJudged, IsAskedAs, IsMeantAs, AsksNone};
 ghost use Rattle.clash_rules.specs.Json.{rules_of};
 
 use crate::board_calls::{call_of_topic, topics_call};
@@ -17,7 +20,7 @@ use bcf_bodies::BodyFault;
 use bim_model::{Author, Bytes, Mode, Moment, Rules, Text};
 use book_history::{BookRequest, Wanted};
 use clash_rules::{RuleError, RuleFault, from_json};
-use http_frame::HttpRequest;
+use http_frame::{HttpRequest, TurnField};
 use http_routes::{
     PageError, QueryName, Resource, RoutePath, Routes, grid_asked, has_method, is_same, page_asked,
     split_target,
@@ -36,6 +39,8 @@ pub enum RequestFault {
     Encoding,
     /// H11: a parameter of the query stands twice, or has a value that it may not have.
     Query { name: QueryName },
+    /// H13: the field `X-Book-Turn` stands twice, or isn't 1 to 15 digits.
+    BadTurn,
     /// H9: the body is no JSON text, or no object.
     BadJson,
     /// A fault of the members of clash rules.
@@ -181,7 +186,7 @@ fn clashes_call(
 
 /// What the response needs of a request; and what the request asks for at a moment, in seconds since 1970, or the first
 /// fault that it alone decides: its target names nothing, this hasn't the method, the body is encoded, the query, the
-/// body. What the target names is found once for both. A call that is asked for brings no set of a bucket.
+/// turn that it gives, the body. What the target names is found once for both. A call that is asked for brings no set of a bucket.
 pub fn asked_of(
     alloc: Global,
     routes: &Routes,
@@ -193,7 +198,9 @@ pub fn asked_of(
     ensures asked { IsAskedAs result.1 (asked_by moment request) }
     ensures none { IfOk result.1 AsksNone }
 {
-    asked_by(alloc, routes, request, moment)
+    let seen = request.seen;
+    let (kind, asked) = asked_without_turn(alloc, routes, request, moment);
+    (kind, with_turn(seen, asked))
 }
 
 // What the target of a request names; or the first fault of it, of the method and of the encoding.
@@ -216,9 +223,52 @@ fn judged<'t>(
     Ok(resource)
 }
 
-// What the response needs of a request, and what the request asks for.
-#[tactic(auto, unfolding(crate::specs::Asked::asked_by, crate::specs::ReplyKinds::kind_of))]
-fn asked_by(
+// The refusal where the turn that a request gives is bad.
+fn bad_turn(asked: Result<Action, Refusal>) -> Refusal
+    ensures { (meant : Result Action RequestFault) → IsAskedAs asked meant
+        → IsAskedAs (Err result) (with_bad_turn meant) }
+{
+    match asked {
+        Ok(action) => {
+            drop(action);
+            Refusal::Fault(RequestFault::BadTurn)
+        }
+        Err(Refusal::Fault(fault)) => Refusal::Fault(fault_or_turn(fault)),
+        Err(Refusal::Memory) => Refusal::Memory,
+    }
+}
+
+// The fault of a request whose turn is bad too.
+fn fault_or_turn(fault: RequestFault) -> RequestFault
+    ensures { Err result ≡ with_bad_turn (Err fault) }
+{
+    match fault {
+        RequestFault::NoRoute => RequestFault::NoRoute,
+        RequestFault::Method { path } => RequestFault::Method { path },
+        RequestFault::Encoding => RequestFault::Encoding,
+        RequestFault::Query { name } => RequestFault::Query { name },
+        RequestFault::BadTurn => RequestFault::BadTurn,
+        RequestFault::BadJson => RequestFault::BadTurn,
+        RequestFault::Rules(_) => RequestFault::BadTurn,
+        RequestFault::Body(_) => RequestFault::BadTurn,
+    }
+}
+
+// What is asked for, by the turn that the request gives.
+fn with_turn(seen: TurnField, asked: Result<Action, Refusal>) -> Result<Action, Refusal>
+    ensures { (meant : Result Action RequestFault) → IsAskedAs asked meant
+        → IsAskedAs result (with_turn seen meant) }
+{
+    match seen {
+        TurnField::Absent => asked,
+        TurnField::Given(_) => asked,
+        TurnField::Bad => Err(bad_turn(asked)),
+    }
+}
+
+// What the response needs of a request, and what the request asks for, if the turn that it gives is passed over.
+#[tactic(auto, unfolding(crate::specs::Asked::asked_without_turn, crate::specs::ReplyKinds::kind_of))]
+fn asked_without_turn(
     alloc: Global,
     routes: &Routes,
     request: HttpRequest,
@@ -226,7 +276,7 @@ fn asked_by(
 ) -> (ReplyKind, Result<Action, Refusal>)
     requires { IsMoment moment }
     ensures kind { result.0 ≡ kind_of request }
-    ensures asked { IsAskedAs result.1 (asked_by moment request) }
+    ensures asked { IsAskedAs result.1 (asked_without_turn moment request) }
 {
     let named = routes.resource_of(request.target.as_slice());
     let kind = kind_at(&request, named);

@@ -11,8 +11,8 @@ use bcf_viewpoints::ViewPart;
 use book_history::{BookFault, ReplyBody, StoreWhat};
 use coord_json::{changed_out, clashes_out, pending_out, version_out};
 use error_json::{
-    error_full, error_named, error_newest, error_out, error_place, error_store, error_version,
-    rule_fault_out, upload_fault_out,
+    error_full, error_named, error_newest, error_out, error_place, error_store, error_turn,
+    error_version, rule_fault_out, upload_fault_out,
 };
 use http_frame::FrameFault;
 use http_routes::QueryName;
@@ -56,6 +56,7 @@ fn fault_out(alloc: Global, fault: &RequestFault) -> Result<Value, AllocError>
         RequestFault::Method { .. } => error_out(alloc, "H8", "Method"),
         RequestFault::Encoding => error_out(alloc, "H12", "Encoding"),
         RequestFault::Query { name } => error_named(alloc, "H11", "Query", query_text(*name)),
+        RequestFault::BadTurn => error_out(alloc, "H13", "TurnField"),
         RequestFault::BadJson => error_out(alloc, "H9", "BadJson"),
         RequestFault::Rules(fault) => rule_fault_out(alloc, *fault),
         RequestFault::Body(fault) => body_fault_out(alloc, fault),
@@ -99,6 +100,7 @@ fn refusal_out(alloc: Global, fault: BookFault) -> Result<Value, AllocError>
         BookFault::AlreadyDone => error_out(alloc, "K10", "AlreadyDone"),
         BookFault::NoWork => error_out(alloc, "K11", "NoWork"),
         BookFault::NoClash { place, total } => error_place(alloc, "K12", "NoClash", place, total),
+        BookFault::TurnAhead { given, turn } => error_turn(alloc, "K13", "TurnAhead", given, turn),
         BookFault::NoTopic => error_out(alloc, "B1", "NoTopic"),
         BookFault::NoComment => error_out(alloc, "B2", "NoComment"),
         BookFault::TopicsFull { count, limit } => {

@@ -1,4 +1,5 @@
 pub mod Talks
+pub mod ShelfReplies
 pub mod Reading
 pub mod Sessions
 pub mod Pending

@@ -21,18 +21,19 @@ use Rattle.bcf_topics.specs.declared.comment.CommentIn.{CommentIn}
 use Rattle.bcf_topics.specs.declared.comment.CommentBody.{CommentBody}
 use Rattle.book_topics.specs.TopicIdentifiers.{topic_named, comment_named, view_named, comment_kept}
 use Rattle.bcf_viewpoints.specs.declared.view.ViewBody.{ViewBody}
-use Rattle.book_history.specs.declared.book_fault.BookFault.TheVariants.{Pending, NoModel, NoTopic, NoComment, NoViewpoint}
+use Rattle.book_history.specs.declared.book_fault.BookFault.TheVariants.{Pending, TurnAhead, NoModel, NoTopic, NoComment, NoViewpoint}
 use Rattle.book_history.specs.declared.replies.ReplyBody.{ReplyBody}
 use Rattle.book_history.specs.declared.replies.ReplyBody.TheVariants as reply
 use Rattle.book_history.specs.declared.requests.Wanted.{Wanted}
 use Rattle.book_history.specs.declared.requests.BookRequest.{BookRequest}
+use Rattle.book_history.specs.declared.requests.BookCall.{BookCall}
 use Rattle.book_history.specs.declared.requests.BookRequest.TheVariants.{Upload, Remove, SetRules, ReadVersion, ReadClashes, ClashTopic, PostTopic, PutTopic, DeleteTopic, PostComment, PutComment, DeleteComment, PostView, DeleteView, TakeWork, Finish}
 use Rattle.book_history.specs.Orders.{OrderValue}
 use Rattle.book_history.specs.Versions.{VersionState, nothing, version_at, live_in}
 use Rattle.book_history.specs.Projects.{ProjectState, newest, with_change}
 use Rattle.book_history.specs.History.{state_of, board_of, at_turn, left_in, live_of, left_all, project_numbers}
 use Rattle.book_history.specs.Refusals.{project_of, wanted_in, not_yet, dropped, pending, no_clash, done_before, no_model, full, not_noted}
-use Rattle.book_history.specs.Requests.{Outcome, Answer, Accepted, unless, found, in_project, in_topic, in_comment, in_view, with_body, changed, noted, version_read, clashes_read, clash_noted, topic_told, comment_told, view_told, order_for, all_orders, finished, outcome_of, reply_to, body_of, reply_of, added_by}
+use Rattle.book_history.specs.Requests.{Outcome, Answer, Accepted, refused_or, without_turn, ahead, outcome_in, unless, found, in_project, in_topic, in_comment, in_view, with_body, changed, noted, version_read, clashes_read, clash_noted, topic_told, comment_told, view_told, order_for, all_orders, finished, outcome_of, reply_to, body_of, reply_of, added_by}
 use Rattle.book_history.specs.Runs.{Step, Runs, IsRun}
 use Rattle.book_history.proofs.Live.{gone, live_length, live_at}
 use Rattle.book_history.proofs.States.{within, nothing_yet}
@@ -360,6 +361,18 @@ calm_call settings h (TakeWork seat) none = calm_order h (all_orders settings.pr
 calm_call settings h (Finish set) none = calm_finish h set
 calm_call settings h call none = calm_is h (outcome_of settings h call) (search (calm_step, calm_answer, calm_topic_answer, calm_comment_answer, calm_view_answer))
 
+-- .. whatever turn it gives
+calm_in_turn : (settings : Settings) (h : List Entry) (turn : ℕ) (call : BookCall) → left_all settings.projects h ≡ 0 → IsCalm h (outcome_in settings h turn call)
+calm_in_turn settings h turn call none = by call.seen
+  where
+    test : (given : ℕ) (b : Bool) → IsCalm h (refused_or (if b then Some (TurnAhead given turn) else None) (outcome_of settings h call.request))
+    test given true = λ p. (let e = fault_is (TurnAhead given turn) _ p.2 in cc)
+    test given false = calm_call settings h call.request none
+
+    by : (seen : Option ℕ) → IsCalm h (refused_or (ahead turn seen) (outcome_of settings h call.request))
+    by None = calm_call settings h call.request none
+    by (Some given) = test given (nat_le turn given)
+
 -- ---- steps
 
 -- none of the steps is answered so
@@ -376,7 +389,7 @@ numbered_of : (settings : Settings) (done : List Step) (h : List Entry) (steps :
 numbered_of settings done h [] final n count runs = tt
 numbered_of settings done h (s ∷ ss) final n count runs = (
   runs.0.turn ∙ ap (λ k. k + 1) count,
-  numbered_of settings (done ++ s ∷ []) (h ++ added_by settings h s.stamp s.request) ss final (n + 1) (length-append done (s ∷ []) ∙ ap (λ k. k + 1) count) runs.1,
+  numbered_of settings (done ++ s ∷ []) (h ++ added_by settings h s.stamp s.call) ss final (n + 1) (length-append done (s ∷ []) ∙ ap (λ k. k + 1) count) runs.1,
 )
 
 numbered_split : (n : ℕ) (a b : List Step) → AreNumbered n (a ++ b) → AreNumbered n a × AreNumbered (last_turn n a) b
@@ -400,7 +413,7 @@ calm_turn a steps t are clear =
     let none : left_all a.standing.settings.projects (at_turn t.step.stamp.turn a.standing.history) ≡ 0 =
     ap (λ n. left_all a.standing.settings.projects (at_turn n a.standing.history)) numbered.0 ∙ clear in
     subst (λ (ss : List Step). AreCalm a.standing.settings a.standing.history ss) (sym t.one)
-    (calm_call a.standing.settings (at_turn t.step.stamp.turn a.standing.history) t.step.request none, tt)
+    (calm_in_turn a.standing.settings (at_turn t.step.stamp.turn a.standing.history) t.step.stamp.turn t.step.call none, tt)
 
 calm_answers : (a : Asking) (bytes : List ℕ) (steps : List Step) (printed : Printed) → Answers a bytes steps printed → AreNumbered a.standing.last steps
     → left_behind a.standing a.standing.last ≡ 0 → AreCalm a.standing.settings a.standing.history steps
@@ -422,12 +435,12 @@ calm_event s (frame.request r) moments bytes steps printed answers are clear = c
 calm_given : (s : Standing) (last : ℕ) (step : Step) → Gives s last step → IsPending (reply_at s.settings s.history step) → ⊥
 calm_given s last step g p =
     calm_order (at_turn step.stamp.turn s.history) (all_orders s.settings.projects (at_turn step.stamp.turn s.history)) 0
-    (subst (λ (r : BookRequest). IsPending (reply_of s.settings (at_turn step.stamp.turn s.history) step.stamp r).body) g.request p)
+    (subst (λ (r : BookCall). IsPending (reply_of s.settings (at_turn step.stamp.turn s.history) step.stamp r).body) g.call p)
 
-calm_brought : (s : Standing) (step : Step) (set : SetValue) → step.request ≡ Finish set → IsPending (reply_at s.settings s.history step) → ⊥
+calm_brought : (s : Standing) (step : Step) (set : SetValue) → step.call ≡ without_turn (Finish set) → IsPending (reply_at s.settings s.history step) → ⊥
 calm_brought s step set is p =
     calm_finish (at_turn step.stamp.turn s.history) set
-    (subst (λ (r : BookRequest). IsPending (reply_of s.settings (at_turn step.stamp.turn s.history) step.stamp r).body) is p)
+    (subst (λ (r : BookCall). IsPending (reply_of s.settings (at_turn step.stamp.turn s.history) step.stamp r).body) is p)
 
 calm_on : (s : Standing) (last count : ℕ) (steps : List Step) → WorksOn s last count steps → AreCalm s.settings s.history steps
 calm_on s last zero steps works = calm_none s.settings s.history steps works
@@ -436,7 +449,7 @@ calm_on s last (suc count) steps works =
     subst (λ (ss : List Step). AreCalm s.settings s.history ss) (sym works.2)
     (calm_append s.settings s.history works.0 works.1 (calm_on s last count works.0 works.3)
     (subst (λ (ss : List Step). AreCalm s.settings s.history ss) (sym one.two)
-    (calm_given s (last + 2 * count) one.first one.gives, (calm_brought s one.second one.set one.request, tt))))
+    (calm_given s (last + 2 * count) one.first one.gives, (calm_brought s one.second one.set one.call, tt))))
 
 calm_short : (s : Standing) (steps : List Step) → WorksShort s steps → AreCalm s.settings s.history steps
 calm_short s steps works =
@@ -570,8 +583,8 @@ run_above settings done h [] final top above le runs = subst (λ (es : List Entr
 run_above settings done h (s ∷ ss) final top above le runs =
     let turn : s.stamp.turn ≡ length done + 1 = runs.0.turn in
     let count : length (done ++ s ∷ []) ≡ length done + 1 = length-append done (s ∷ []) in
-    run_above settings (done ++ s ∷ []) (h ++ added_by settings h s.stamp s.request) ss final top
-    (above_append top h (added_by settings h s.stamp s.request) above (above_of s.stamp.turn top (added_by settings h s.stamp s.request) (omega (arith, turn, le)) (added_of settings h s.stamp s.request)))
+    run_above settings (done ++ s ∷ []) (h ++ added_by settings h s.stamp s.call) ss final top
+    (above_append top h (added_by settings h s.stamp s.call) above (above_of s.stamp.turn top (added_by settings h s.stamp s.call) (omega (arith, turn, le)) (added_of settings h s.stamp s.call)))
     (omega (arith, count, le)) runs.1
 
 -- no entry is of turn 0

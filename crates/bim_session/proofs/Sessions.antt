@@ -7,15 +7,13 @@ use Rattle.http_frame.specs.Events as frame
 use Rattle.book_history.specs.declared.limits.Settings.{Settings}
 use Rattle.book_history.specs.declared.changes.Entry.{Entry}
 use Rattle.book_turn.specs.declared.object.Stamp.{Stamp}
-use Rattle.book_history.specs.declared.requests.BookRequest.TheVariants.{ReadClashes}
-use Rattle.book_history.specs.declared.requests.Wanted.TheVariants.{Number}
 use Rattle.book_history.specs.History.{at_turn, of_turn, newest_of, left_all, IsBefore}
 use Rattle.book_history.specs.Requests.{reply_of, added_by}
 use Rattle.book_history.specs.Runs.{Step}
 use Rattle.book_history.proofs.Histories.{AreAbove, AreOf, added_of, at_turn-grown, of_turn-grown, at_turn-new, of_turn-new}
 use Rattle.bcf_http.specs.declared.answers.Answer.TheVariants as answer
 use Rattle.bim_session.specs.Works.{Standing, Printed, IsTaken, Gives, WorksOne, WorksOn, Works, IsEnough, left_behind, last_turn}
-use Rattle.bim_session.specs.Session.{Asking, asking, TakesTurn, IsResponseTo, IsKept, IsShelved, IsBooked, TakesIdly, up_to_printed, printed_after, Answers, AnswersEvent, WorksBehind, AnswersFirst, Answered, counted, requests, closes, is_closed, past, behind}
+use Rattle.bim_session.specs.Session.{Asking, asking, TakesTurn, IsResponseTo, kept_call, IsKept, IsShelved, IsBooked, TakesIdly, up_to_printed, printed_after, Answers, AnswersEvent, WorksBehind, AnswersFirst, Answered, counted, requests, closes, is_closed, past, behind}
 use Rattle.bim_session.proofs.Reading.{or_false}
 
 -- ---- later entries
@@ -50,7 +48,7 @@ taken_grown s more top step t le above =
     record {
       within = (let later : step.stamp.turn ≤ top = omega arith in later);
       entry = of_turn-grown step.stamp.turn s.top s.history more within above ∙ t.entry
-          ∙ ap (λ es. added_by s.settings es step.stamp step.request) (sym (at_turn-grown step.stamp.turn s.top s.history more within above));
+          ∙ ap (λ es. added_by s.settings es step.stamp step.call) (sym (at_turn-grown step.stamp.turn s.top s.history more within above));
     }
 
 turn_grown : (a : Asking) (more : List Entry) (top : ℕ) (steps : List Step) → TakesTurn a steps → a.standing.top ≤ top → AreAbove a.standing.top more
@@ -72,12 +70,14 @@ printed_grown s more top le above = up_to_grown s.printed.turn s.top s.history m
 kept_grown : (a : Asking) (more : List Entry) (top : ℕ) → a.standing.printed.turn ≤ a.standing.top → AreAbove a.standing.top more → IsKept a
     → IsKept (grown_asking more top a)
 kept_grown a more top le above k = record {
+  seen = k.seen;
   id = k.id;
   project = k.project;
   version = k.version;
   first = k.first;
   count = k.count;
   means = k.means;
+  up_to = k.up_to;
   named = k.named;
   answered = k.answered;
   live = subst (λ (es : List Entry). newest_of k.project es < k.version + 16) (sym (printed_grown a.standing more top le above)) k.live;
@@ -86,12 +86,14 @@ kept_grown a more top le above k = record {
 pub kept_before : (a : Asking) (more : List Entry) (top : ℕ) → a.standing.printed.turn ≤ a.standing.top → AreAbove a.standing.top more
     → IsKept (grown_asking more top a) → IsKept a
 kept_before a more top le above k = record {
+  seen = k.seen;
   id = k.id;
   project = k.project;
   version = k.version;
   first = k.first;
   count = k.count;
   means = k.means;
+  up_to = k.up_to;
   named = k.named;
   answered = k.answered;
   live = subst (λ (es : List Entry). newest_of k.project es < k.version + 16) (printed_grown a.standing more top le above) k.live;
@@ -102,11 +104,11 @@ shelved_grown : (a : Asking) (more : List Entry) (top : ℕ) (bytes : List ℕ) 
 unfolding kept_grown
 shelved_grown a more top bytes steps printed s le above = record {
   kept = kept_grown a more top le above s.kept;
-  response = λ (stamp : Stamp).
+  response = λ (stamp : Stamp) next.
       subst (λ (es : List Entry). IsResponseTo a
-      (answer.Book (reply_of a.standing.settings es stamp (ReadClashes s.kept.id (Number s.kept.version) s.kept.first s.kept.count)))
+      (answer.Book (reply_of a.standing.settings es stamp (kept_call s.kept.seen s.kept.id s.kept.version s.kept.first s.kept.count)))
       (Some a.standing.printed.turn) bytes)
-      (sym (printed_grown a.standing more top le above)) (s.response stamp);
+      (sym (printed_grown a.standing more top le above)) (s.response stamp next);
   none = s.none;
   printed_is = s.printed_is;
 }
@@ -117,11 +119,11 @@ unfolding turn_grown
 booked_grown a more top bytes steps printed b le up above = record {
   unkept = λ kept. b.unkept (kept_before a more top le above kept);
   taken = turn_grown a more top steps b.taken up above;
-  response = subst (λ (es : List Entry). IsResponseTo a (answer.Book (reply_of a.standing.settings es b.taken.step.stamp b.taken.step.request)) (Some b.taken.step.stamp.turn) bytes)
+  response = subst (λ (es : List Entry). IsResponseTo a (answer.Book (reply_of a.standing.settings es b.taken.step.stamp b.taken.step.call)) (Some b.taken.step.stamp.turn) bytes)
       (sym (at_turn-grown b.taken.step.stamp.turn a.standing.top a.standing.history more b.taken.taken.within above)) b.response;
   above = b.above;
   printed_is = b.printed_is
-      ∙ ap (λ (es : List Entry). printed_after b.taken.step (reply_of a.standing.settings es b.taken.step.stamp b.taken.step.request) a.standing.printed)
+      ∙ ap (λ (es : List Entry). printed_after b.taken.step (reply_of a.standing.settings es b.taken.step.stamp b.taken.step.call) a.standing.printed)
       (sym (at_turn-grown b.taken.step.stamp.turn a.standing.top a.standing.history more b.taken.taken.within above));
 }
 
@@ -180,9 +182,9 @@ gives_grown s more top last step g le above =
       order = g.order;
       some = subst (λ n. 0 < n) (sym (left_grown s more top last before above)) g.some;
       turn = turn;
-      request = g.request;
+      call = g.call;
       taken = taken_grown s more top step g.taken le above;
-      given = ap (λ es. (reply_of s.settings es step.stamp step.request).body) (at_turn-grown step.stamp.turn s.top s.history more within above) ∙ g.given;
+      given = ap (λ es. (reply_of s.settings es step.stamp step.call).body) (at_turn-grown step.stamp.turn s.top s.history more within above) ∙ g.given;
     }
 
 pub one_grown : (s : Standing) (more : List Entry) (top last : ℕ) (steps : List Step) → WorksOne s last steps → s.top ≤ top → AreAbove s.top more → WorksOne (grown more top s) last steps
@@ -195,7 +197,7 @@ one_grown s more top last steps w le above = record {
   gives = gives_grown s more top last w.first w.gives le above;
   found = w.found;
   turn = w.turn;
-  request = w.request;
+  call = w.call;
   taken = taken_grown s more top w.second w.taken le above;
 }
 
@@ -395,10 +397,10 @@ Answered_push s (q ∷ events) moments out steps printed event asked bytes own w
 
 -- the entries of the next step are those that its request adds
 pub entry_new : (settings : Settings) (history : List Entry) (step : Step) → IsBefore step.stamp.turn history
-    → (let more : List Entry = history ++ added_by settings history step.stamp step.request in
-    of_turn step.stamp.turn more ≡ added_by settings (at_turn step.stamp.turn more) step.stamp step.request)
+    → (let more : List Entry = history ++ added_by settings history step.stamp step.call in
+    of_turn step.stamp.turn more ≡ added_by settings (at_turn step.stamp.turn more) step.stamp step.call)
 entry_new settings history step before =
-    let added : List Entry = added_by settings history step.stamp step.request in
-    let own : AreOf step.stamp.turn added = added_of settings history step.stamp step.request in
+    let added : List Entry = added_by settings history step.stamp step.call in
+    let own : AreOf step.stamp.turn added = added_of settings history step.stamp step.call in
     of_turn-new step.stamp.turn history added before own
-    ∙ ap (λ es. added_by settings es step.stamp step.request) (sym (at_turn-new step.stamp.turn history added before own))
+    ∙ ap (λ es. added_by settings es step.stamp step.call) (sym (at_turn-new step.stamp.turn history added before own))

@@ -10,7 +10,7 @@ use Rattle.http_frame.specs.Framers.{Stands, Answered}
 use Rattle.bim_io.specs.StreamViews.{ClockSeen, ClockGives}
 use Rattle.bim_io.proofs.Calls.{clock_none}
 use Rattle.bcf_http.specs.declared.reply_kind.ReplyKind.{ReplyKind}
-use Rattle.book_history.specs.declared.requests.BookRequest.{BookRequest}
+use Rattle.book_history.specs.declared.requests.BookCall.{BookCall}
 use Rattle.book_history.specs.declared.replies.BookReply.{BookReply}
 use Rattle.bcf_http.specs.declared.answers.Answer.{Answer}
 use Rattle.bcf_http.specs.declared.answers.Answer.TheVariants as answer
@@ -149,7 +149,7 @@ requested old new f m r (Call call) a b here steps gives wants = λ rest told st
           wants.0,
           wants.1,
           wants.2
-              ∙ ap (λ (g : Framer). with_call (waiting_for r (old.served + 1) (asks_change call) (project_read call)) (with_framer g old)) (sym same),
+              ∙ ap (λ (g : Framer). with_call (waiting_for r (old.served + 1) (asks_change call.request) (project_read call.request)) (with_framer g old)) (sym same),
         ),
       ),
     )
@@ -208,7 +208,7 @@ wants_refusal m r refusal old new kind close result kind_is close_is unasked wri
 
 -- ---- a request that asks for what is kept
 
-kept_write : (waiting : Waiting) (call : BookRequest) (old new : TalkState) (kept : BookReply) (want : Want) → IsKeptReply old.notes call kept
+kept_write : (waiting : Waiting) (call : BookCall) (old new : TalkState) (kept : BookReply) (want : Want) → IsKeptReply old.notes call kept
     → Writes (IsResponse (answer.Book kept) waiting.kind (Some old.notes.turn) waiting.close) want → new ≡ with_answer waiting.close old → AsksFor waiting call old want new
 kept_write waiting call old new kept More is writes state = absurd writes
 kept_write waiting call old new kept (Write bytes) is writes state = ((kept, is, writes), state)
@@ -216,7 +216,7 @@ kept_write waiting call old new kept (Call other) is writes state = absurd write
 kept_write waiting call old new kept (Leave e) is writes state = absurd writes
 
 -- its answer
-pub asks_kept : (waiting : Waiting) (call : BookRequest) (old new : TalkState) (notes : Notes) (kept : BookReply) (result : Result Want AllocError) → notes ≡ old.notes
+pub asks_kept : (waiting : Waiting) (call : BookCall) (old new : TalkState) (notes : Notes) (kept : BookReply) (result : Result Want AllocError) → notes ≡ old.notes
     → IsKeptReply notes call kept → IfOk result (Writes (IsResponse (answer.Book kept) waiting.kind (Some notes.turn) waiting.close))
     → OnOk result (new ≡ with_answer waiting.close old) → IfOk result (λ want. AsksFor waiting call old want new)
 asks_kept waiting call old new notes kept (Ok want) same is writes state =

@@ -121,7 +121,7 @@ IsPending body = (version : ℕ) × (left : ℕ) × (body ≡ Refused (Pending v
 -- the reply to a step at the entries below its turn
 abbrev pub reply_at : Settings → List Entry → Step → ReplyBody
 reply_at settings history step =
-    (reply_of settings (at_turn step.stamp.turn history) step.stamp step.request).body
+    (reply_of settings (at_turn step.stamp.turn history) step.stamp step.call).body
 
 -- where all buckets are worked after each answer, no step of the session is answered so
 abbrev pub NoneIsPending : Type 0

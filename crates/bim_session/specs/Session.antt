@@ -5,11 +5,14 @@ use Rattle.bim_model.specs.declared.upload.UploadFault.{UploadFault}
 use Rattle.model_build.specs.Profile.{Profile}
 use Rattle.http_frame.specs.declared.types.HttpRequest.{HttpRequest}
 use Rattle.http_frame.specs.declared.types.FrameFault.{FrameFault}
+use Rattle.http_frame.specs.declared.types.TurnField.{TurnField}
+use Rattle.http_frame.specs.declared.types.TurnField.TheVariants as turn
 use Rattle.http_frame.specs.Events.{Begins, Asks, Event, IsRest, IsTold, Spells}
 use Rattle.http_frame.specs.Events as frame
 use Rattle.book_history.specs.declared.changes.Entry.{Entry}
 use Rattle.book_history.specs.declared.requests.BookRequest.{BookRequest}
 use Rattle.book_history.specs.declared.requests.BookRequest.TheVariants.{Upload, ReadClashes}
+use Rattle.book_history.specs.declared.requests.BookCall.{BookCall}
 use Rattle.book_history.specs.declared.requests.Wanted.TheVariants.{Number}
 use Rattle.book_history.specs.declared.replies.BookReply.{BookReply}
 use Rattle.book_history.specs.History.{at_turn, of_turn, newest_of}
@@ -27,7 +30,7 @@ use Rattle.bcf_http.specs.ReplyKinds.{kind_of, no_kind}
 use Rattle.bcf_http.specs.Asked.{asked_by}
 use Rattle.bcf_http.specs.Answers.{IsResponse}
 use Rattle.bim_session.specs.declared.talk.TheConstants.{MOST_REQUESTS}
-use Rattle.bim_session.specs.ShelfNotes.{named_project, project_read, set_told}
+use Rattle.bim_session.specs.ShelfNotes.{named_project, project_read, set_told, IsUpTo}
 use Rattle.bim_session.specs.Works.{Standing, Printed, IsTaken, Works, WorksShort, last_turn}
 use Rattle.bim_session.specs.declared.end.SessionEnd.{SessionEnd}
 use Rattle.bim_session.specs.declared.end.SessionEnd.TheVariants.{Closed, Asked, Cut, ReadFault, WriteFault, Frame, Spent, SpentTurns, Memory}
@@ -86,17 +89,23 @@ pub record Asking : Type 0 where
 abbrev pub asking : Standing → ℕ → HttpRequest → Asking
 asking standing moment request = record { standing = standing; moment = moment; request = request }
 
--- the call of the book that what is asked for means: itself, or the upload of a model that the profile
+-- the request to the book that what is asked for means: itself, or the upload of a model that the profile
 -- accepts
-abbrev pub MeansCall : Result Action RequestFault → BookRequest → Type 0
-MeansCall (Ok (Call asked)) call = asked ≡ call
-MeansCall (Ok (Build project name mode body)) call =
-    (model : List Element) × Profile body mode (Ok model) × (Upload project name model ≡ call)
-MeansCall (Err fault) call = ⊥
+abbrev pub MeansRequest : Result Action RequestFault → BookRequest → Type 0
+MeansRequest (Ok (Call asked)) request = asked ≡ request
+MeansRequest (Ok (Build project name mode body)) request =
+    (model : List Element) × Profile body mode (Ok model) × (Upload project name model ≡ request)
+MeansRequest (Err fault) request = ⊥
 
--- a request means this call of the book at a moment
-abbrev pub Means : ℕ → HttpRequest → BookRequest → Type 0
-Means moment request call = MeansCall (asked_by moment request) call
+-- the turn that a request gives, if it gives one
+abbrev pub turn_given : TurnField → Option ℕ
+turn_given (turn.Given given) = Some given
+turn_given _ = None
+
+-- a request means this call of the book at a moment: with the turn that it gives
+abbrev pub Means : ℕ → HttpRequest → BookCall → Type 0
+Means moment request call =
+    MeansRequest (asked_by moment request) call.request × (call.seen ≡ turn_given request.seen)
 
 -- how what is asked for is refused: by the request's fault, or by the one that the profile finds in the body
 abbrev pub RefusesCall : Result Action RequestFault → Answer → Type 0
@@ -119,7 +128,7 @@ pub record TakesTurn (a : Asking) (steps : List Step) : Type 0 where
   pub step : Step
   pub one : steps ≡ step ∷ []
   pub above : a.standing.last < step.stamp.turn
-  pub means : Means a.moment a.request step.request
+  pub means : Means a.moment a.request step.call
   pub taken : IsTaken a.standing step
 
 -- the request alone decides the answer, which prints no turn
@@ -134,26 +143,33 @@ pub record IsPlain (a : Asking) (bytes : List ℕ) (steps : List Step) (printed 
 abbrev pub up_to_printed : Standing → List Entry
 up_to_printed s = at_turn (s.printed.turn + 1) s.history
 
+-- the call for clashes of a version by its number, with the turn that it gives
+abbrev pub kept_call : Option ℕ → ℕ → ℕ → ℕ → ℕ → BookCall
+kept_call seen id version first count =
+    record { seen = seen; request = ReadClashes id (Number version) first count }
+
 -- The request asks for the clashes of a version, by its number, that the session was answered before and that is still one
--- of the last sixteen of its project at the turn that was printed last.
+-- of the last sixteen of its project at the turn that was printed last. It gives no turn above that one.
 pub record IsKept (a : Asking) : Type 0 where
+  pub seen : Option ℕ
   pub id : ℕ
   pub project : ℕ
   pub version : ℕ
   pub first : ℕ
   pub count : ℕ
-  pub means : Means a.moment a.request (ReadClashes id (Number version) first count)
+  pub means : Means a.moment a.request (kept_call seen id version first count)
+  pub up_to : IsUpTo a.standing.printed.turn seen
   pub named : named_project id ≡ Some project
   pub answered : Contains a.standing.printed.sets (project, version)
   pub live : newest_of project (up_to_printed a.standing) < version + LIVE_VERSIONS
 
 -- Such a request takes no turn. Its answer prints the turn that was printed last, and is the book's at the entries up to
--- that one, whatever the stamp.
+-- that one, in the turn after it.
 pub record IsShelved (a : Asking) (bytes : List ℕ) (steps : List Step) (printed : Printed) : Type 0 where
   pub kept : IsKept a
-  pub response : (stamp : Stamp) → IsResponseTo a
+  pub response : (stamp : Stamp) → stamp.turn ≡ a.standing.printed.turn + 1 → IsResponseTo a
       (answer.Book (reply_of a.standing.settings (up_to_printed a.standing) stamp
-      (ReadClashes kept.id (Number kept.version) kept.first kept.count)))
+      (kept_call kept.seen kept.id kept.version kept.first kept.count)))
       (Some a.standing.printed.turn) bytes
   pub none : steps ≡ []
   pub printed_is : printed ≡ a.standing.printed
@@ -168,12 +184,12 @@ with_set (Some project) (Some told) sets = (project, told.0) ∷ sets
 abbrev pub printed_after : Step → BookReply → Printed → Printed
 printed_after step reply before = record {
   turn = step.stamp.turn;
-  sets = with_set (project_read step.request) (set_told reply.body) before.sets;
+  sets = with_set (project_read step.call.request) (set_told reply.body) before.sets;
 }
 
 -- the book's reply to a step of what is asked for
 abbrev pub reply_to : Standing → Step → BookReply
-reply_to s step = reply_of s.settings (at_turn step.stamp.turn s.history) step.stamp step.request
+reply_to s step = reply_of s.settings (at_turn step.stamp.turn s.history) step.stamp step.call
 
 -- Any other request is answered at a turn: the answer is the book's at the entries below the turn that it prints, which is
 -- above those printed before.
@@ -311,7 +327,7 @@ pub record NeedsTurn (s : Stop) : Type 0 where
   pub moment : ℕ
   pub request : HttpRequest
   pub later : List ℕ
-  pub call : BookRequest
+  pub call : BookCall
   pub one : s.moments ≡ moment ∷ []
   pub told : IsTold s.told s.rest
   pub next : Begins s.rest request later

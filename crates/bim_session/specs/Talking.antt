@@ -12,10 +12,10 @@ use Rattle.book_turn.specs.declared.call_fault.CallFault.{CallFault}
 use Rattle.book_turn.specs.declared.call_fault.CallFault.TheVariants as call_fault
 use Rattle.clash_publish.specs.Shelves.{set_of}
 use Rattle.federation_book.specs.declared.book.Book.{Book}
-use Rattle.bucket_check.specs.ClashSets.{SetValue}
 use Rattle.book_history.specs.declared.limits.Settings.{Settings}
 use Rattle.book_history.specs.declared.requests.BookRequest.{BookRequest}
 use Rattle.book_history.specs.declared.requests.BookRequest.TheVariants as request
+use Rattle.book_history.specs.declared.requests.BookCall.{BookCall}
 use Rattle.book_history.specs.declared.replies.BookReply.{BookReply}
 use Rattle.book_history.specs.declared.changes.Entry.{Entry}
 use Rattle.book_history.specs.declared.replies.ReplyBody.{ReplyBody}
@@ -23,6 +23,7 @@ use Rattle.book_history.specs.declared.replies.ReplyBody.TheVariants as reply
 use Rattle.bcf_http.specs.declared.answers.Answer.{Answer}
 use Rattle.bcf_http.specs.declared.answers.Answer.TheVariants as answer
 use Rattle.bcf_http.specs.ReplyKinds.{kind_of}
+use Rattle.bcf_http.specs.Asked.{BringsNone}
 use Rattle.bcf_http.specs.Answers.{IsResponse}
 use Rattle.bim_session.specs.declared.notes.Notes.{Notes}
 use Rattle.bim_session.specs.declared.end.SessionEnd.{SessionEnd}
@@ -91,7 +92,7 @@ Stays old new =
 
 -- ---- how a talk goes on
 
--- a call asks for a change: these do, and all others read
+-- a request asks for a change: these do, and all others read
 abbrev pub asks_change : BookRequest → Bool
 asks_change (request.Upload project name model) = true
 asks_change (request.Remove project name) = true
@@ -169,7 +170,7 @@ AnswersAlone moment request waiting bytes =
 -- the answer to a request that asks for clashes which are kept, with the turn that was printed last
 pub record AnswersKept (moment : ℕ) (request : HttpRequest) (notes : Notes) (waiting : Waiting)
     (bytes : List ℕ) : Type 0 where
-  pub call : BookRequest
+  pub call : BookCall
   pub kept : BookReply
   pub means : Means moment request call
   pub is_kept : IsKeptReply notes call kept
@@ -192,17 +193,17 @@ Writes P (Call call) = ⊥
 Writes P (Leave e) = ⊥
 
 -- what the response needs to a call that is to be made
-abbrev pub waiting_on : BookRequest → Waiting → Waiting
+abbrev pub waiting_on : BookCall → Waiting → Waiting
 waiting_on call waiting = record {
   kind = waiting.kind;
   close = waiting.close;
-  changes = asks_change call;
-  reads = project_read call;
+  changes = asks_change call.request;
+  reads = project_read call.request;
 }
 
 -- what a talk wants for a call, of whose response this is needed: the answer, where the call asks for clashes that are
 -- kept; else it is to be made
-abbrev pub AsksFor : Waiting → BookRequest → TalkState → Want → TalkState → Type 0
+abbrev pub AsksFor : Waiting → BookCall → TalkState → Want → TalkState → Type 0
 AsksFor waiting call old More new = ⊥
 AsksFor waiting call old (Call other) new =
     (other ≡ call) × ¬ (AsksKept old.notes call) × (new ≡ with_call (waiting_on call waiting) old)
@@ -217,7 +218,8 @@ abbrev pub WantsFor : ℕ → HttpRequest → TalkState → Want → TalkState �
 WantsFor moment request old More new = ⊥
 WantsFor moment request old (Call call) new =
     Means moment request call × ¬ (AsksKept old.notes call)
-    × (new ≡ with_call (waiting_for request (old.served + 1) (asks_change call) (project_read call)) old)
+    × (new ≡ with_call (waiting_for request (old.served + 1) (asks_change call.request)
+    (project_read call.request)) old)
 WantsFor moment request old (Write bytes) new =
     AnswersAtOnce moment request old.notes (waiting_for request (old.served + 1) false None) bytes
     × (new ≡ with_answer (closes_after request (old.served + 1)) old)
@@ -285,8 +287,8 @@ Talks rest told moments old (Call call) new =
     (old.leaving ≡ None)
     × ((one : TakesRequest rest told moments new.framer) × Means one.moment one.request call
     × ¬ (AsksKept old.notes call)
-    × (new ≡ with_call (waiting_for one.request (old.served + 1) (asks_change call) (project_read call))
-    (with_framer new.framer old)))
+    × (new ≡ with_call (waiting_for one.request (old.served + 1) (asks_change call.request)
+    (project_read call.request)) (with_framer new.framer old)))
 Talks rest told moments old (Leave e) new =
     (moments ≡ [])
     × ((old.leaving ≡ Some e)
@@ -340,7 +342,7 @@ changes_nothing changes body = not changes || is_refusal body
 
 -- the book's answer to a call, with the turn that the call took
 abbrev pub BookReceipt : Type 0
-BookReceipt = Receipt Book BookRequest BookReply Entry Settings
+BookReceipt = Receipt Book BookCall BookReply Entry Settings
 
 -- an answer of the book is noted, which is printed with this turn
 abbrev pub IsNoted : ℕ → Option ℕ → Answer → Notes → Notes → Type 0
@@ -399,4 +401,7 @@ IsOwnWant want = (n : ℕ) → (want ≢ Leave (end.ReadFault n)) × (want ≢ L
 
 -- where a talk wants a call, it is one that may be made at every history
 abbrev pub IsCallable : Want → Type 0
-IsCallable want = (set : SetValue) → want ≢ Call (request.Finish set)
+IsCallable More = Unit {0}
+IsCallable (Write bytes) = Unit {0}
+IsCallable (Call call) = BringsNone call.request
+IsCallable (Leave e) = Unit {0}

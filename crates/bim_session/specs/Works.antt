@@ -7,7 +7,7 @@ use Rattle.book_history.specs.declared.requests.BookRequest.TheVariants.{TakeWor
 use Rattle.book_history.specs.declared.replies.ReplyBody.TheVariants.{Work}
 use Rattle.book_history.specs.Orders.{OrderValue, order_of}
 use Rattle.book_history.specs.History.{at_turn, of_turn, left_all}
-use Rattle.book_history.specs.Requests.{reply_of, added_by}
+use Rattle.book_history.specs.Requests.{without_turn, reply_of, added_by}
 use Rattle.book_history.specs.Runs.{Step}
 
 -- what a session has printed of the book: the last turn, and the versions, each with its project, whose clashes it was
@@ -33,11 +33,11 @@ abbrev pub last_turn : ℕ → List Step → ℕ
 last_turn last [] = last
 last_turn last (s ∷ ss) = last_turn s.stamp.turn ss
 
--- a step took its turn: the history has there exactly what the step's request adds at the entries below
+-- a step took its turn: the history has there exactly what the step's call adds at the entries below
 pub record IsTaken (s : Standing) (step : Step) : Type 0 where
   pub within : step.stamp.turn ≤ s.top
   pub entry : of_turn step.stamp.turn s.history
-      ≡ added_by s.settings (at_turn step.stamp.turn s.history) step.stamp step.request
+      ≡ added_by s.settings (at_turn step.stamp.turn s.history) step.stamp step.call
 
 -- how many buckets of live versions are to be checked after the turns up to this one
 abbrev pub left_behind : Standing → ℕ → ℕ
@@ -53,9 +53,9 @@ pub record Gives (s : Standing) (last : ℕ) (step : Step) : Type 0 where
   pub order : OrderValue
   pub some : 0 < left_behind s last
   pub turn : step.stamp.turn ≡ last + 1
-  pub request : step.request ≡ TakeWork 0
+  pub call : step.call ≡ without_turn (TakeWork 0)
   pub taken : IsTaken s step
-  pub given : (reply_of s.settings (at_turn step.stamp.turn s.history) step.stamp step.request).body
+  pub given : (reply_of s.settings (at_turn step.stamp.turn s.history) step.stamp step.call).body
       ≡ Work order
 
 -- a bucket is worked: it is given out, and its set is brought at the turn after that
@@ -67,7 +67,7 @@ pub record WorksOne (s : Standing) (last : ℕ) (steps : List Step) : Type 0 whe
   pub gives : Gives s last first
   pub found : IsFoundFor gives.order set
   pub turn : second.stamp.turn ≡ last + 2
-  pub request : second.request ≡ Finish set
+  pub call : second.call ≡ without_turn (Finish set)
   pub taken : IsTaken s second
 
 -- so many buckets are worked after a turn, one after the other

@@ -2,15 +2,15 @@
 ghost use Rattle.std.specs.Prelude.{◌≡◌, Ok, IfOk, IfErr};
 ghost use Rattle.bim_model.specs.Moments.{IsMoment};
 ghost use Rattle.model_build.specs.Profile.{IsCause};
-ghost use Rattle.bim_session.specs.Session.{Means, MeansCall};
+ghost use Rattle.bim_session.specs.Session.{Means, MeansRequest, turn_given};
 ghost use Rattle.bim_session.specs.Talking.{IsUnasked};
 ghost use Rattle.bcf_http.specs.ReplyKinds.{kind_of};
 ghost use Rattle.bcf_http.specs.Asked.{BringsNone};
 
 use bcf_http::{Action, Answer, Refusal, ReplyKind, asked_of};
 use bim_model::{BuildError, Bytes, Mode, Shared, Text};
-use book_history::BookRequest;
-use http_frame::HttpRequest;
+use book_history::{BookCall, BookRequest};
+use http_frame::{HttpRequest, TurnField};
 use http_routes::Routes;
 use model_build::build_owned;
 use std::alloc::Global;
@@ -23,7 +23,7 @@ fn upload_of(
     mode: Mode,
     body: Bytes,
 ) -> Result<BookRequest, BuildError>
-    ensures call { IfOk result (MeansCall (Ok (Action.Build project name mode body))) }
+    ensures asked { IfOk result (MeansRequest (Ok (Action.Build project name mode body))) }
     ensures none { IfOk result BringsNone }
     ensures fault { IfErr result (λ error. IsCause body mode error) }
 {
@@ -36,6 +36,16 @@ fn upload_of(
     })
 }
 
+// The turn that a request gives, if it gives one.
+fn turn_given(field: TurnField) -> Option<u64>
+    ensures { result ≡ turn_given field }
+{
+    match field {
+        TurnField::Given(turn) => Some(turn),
+        _ => None,
+    }
+}
+
 /// What the response needs of a request; and the call of the book that the request means at a moment, in seconds since
 /// 1970, or how it is answered without one: by the fault that it alone decides, or as out of memory. The model of an
 /// upload is built here, before any turn is taken. The call brings no set of a bucket, so it may be made at every history.
@@ -44,16 +54,17 @@ pub fn call_of(
     routes: &Routes,
     request: HttpRequest,
     moment: u64,
-) -> (ReplyKind, Result<BookRequest, Answer>)
+) -> (ReplyKind, Result<BookCall, Answer>)
     requires { IsMoment moment }
     ensures kind { result.0 ≡ kind_of request }
     ensures call { IfOk result.1 (Means moment request) }
-    ensures none { IfOk result.1 BringsNone }
+    ensures none { IfOk result.1 (λ call. BringsNone call.request) }
     ensures unasked { IfErr result.1 (IsUnasked moment request) }
 {
+    let seen = turn_given(request.seen);
     let (kind, asked) = asked_of(alloc, routes, request, moment);
     match asked {
-        Ok(Action::Call(call)) => (kind, Ok(call)),
+        Ok(Action::Call(request)) => (kind, Ok(BookCall { seen, request })),
         Ok(
             Action::Build {
                 project,
@@ -62,7 +73,7 @@ pub fn call_of(
                 body,
             },
         ) => match upload_of(alloc, project, name, mode, body) {
-            Ok(call) => (kind, Ok(call)),
+            Ok(request) => (kind, Ok(BookCall { seen, request })),
             Err(BuildError::Fault(fault)) => (kind, Err(Answer::Built(fault))),
             Err(BuildError::Memory) => (kind, Err(Answer::Memory)),
         },

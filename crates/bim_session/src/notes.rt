@@ -1,10 +1,10 @@
 //! What a session keeps of the book's replies.
-ghost use Rattle.std.specs.Prelude.{◌≡◌, ℕ, None, IfOk, IfSome, OnOk, OnErr};
+ghost use Rattle.std.specs.Prelude.{◌≡◌, ◌↔◌, ℕ, None, IsTrue, IfOk, IfSome, OnOk, OnErr};
 ghost use Rattle.clash_publish.specs.Shelves.{set_of};
-ghost use Rattle.bim_session.specs.ShelfNotes.{named_project, project_read, set_told, put_set, AsksKept, IsKeptReply, Noted};
+ghost use Rattle.bim_session.specs.ShelfNotes.{named_project, project_read, set_told, put_set, IsUpTo, AsksShelf, IsShelfReply, AsksKept, IsKeptReply, Noted};
 
 use bim_model::id_of;
-use book_history::{BookReply, BookRequest, MOST_PROJECTS, ReplyBody, Wanted};
+use book_history::{BookCall, BookReply, BookRequest, MOST_PROJECTS, ReplyBody, Wanted};
 use clash_publish::{Horizon, Shelf};
 use std::alloc::{AllocError, Global};
 
@@ -29,13 +29,23 @@ fn named_project(id: u128) -> Option<u32>
     }
 }
 
-// The number of the project whose clashes a call asks for.
-pub(crate) fn project_read(call: &BookRequest) -> Option<u32>
-    ensures { result ≡ project_read call.now }
+// The number of the project whose clashes a request asks for.
+pub(crate) fn project_read(request: &BookRequest) -> Option<u32>
+    ensures { result ≡ project_read request.now }
 {
-    match call {
+    match request {
         BookRequest::ReadClashes { project, .. } => named_project(*project),
         _ => None,
+    }
+}
+
+// The turn that a call gives, if it gives one, isn't above this one.
+fn is_up_to(turn: u64, seen: Option<u64>) -> bool
+    ensures { IsTrue result ↔ IsUpTo turn seen }
+{
+    match seen {
+        Some(given) => given <= turn,
+        None => true,
     }
 }
 
@@ -68,13 +78,25 @@ impl Notes {
         }
     }
 
-    /// The book's reply to a call that asks for clashes on the shelf, as it is at the turn that was printed last. For
-    /// any other call there is none.
-    pub fn reply_to(&self, call: &BookRequest) -> Result<Option<BookReply>, AllocError>
+    /// The book's reply to a call that asks for clashes on the shelf and gives no turn above the one that was printed
+    /// last, as it is at that turn. For any other call there is none.
+    #[tactic(auto, using(crate::proofs::ShelfReplies::kept_up_to, crate::proofs::ShelfReplies::unkept_up_to))]
+    pub fn reply_to(&self, call: &BookCall) -> Result<Option<BookReply>, AllocError>
         ensures kept { IfOk result (λ reply. IfSome reply (IsKeptReply self.now call.now)) }
         ensures none { IfOk result (λ reply. reply ≡ None → ¬ (AsksKept self.now call.now)) }
     {
-        match call {
+        if !is_up_to(self.turn, call.seen) {
+            return Ok(None);
+        }
+        self.on_shelf(&call.request)
+    }
+
+    // The reply to a request that asks for clashes on the shelf.
+    fn on_shelf(&self, request: &BookRequest) -> Result<Option<BookReply>, AllocError>
+        ensures kept { IfOk result (λ reply. IfSome reply (IsShelfReply self.now request.now)) }
+        ensures none { IfOk result (λ reply. reply ≡ None → ¬ (AsksShelf self.now request.now)) }
+    {
+        match request {
             BookRequest::ReadClashes {
                 project,
                 version,

@@ -14,7 +14,7 @@ use crate::want::{Waiting, Want};
 use bcf_http::{Answer, ReplyKind, to_response};
 use bim_io::Clock;
 use bim_model::Bytes;
-use book_history::{BookReply, BookRequest, ReplyBody};
+use book_history::{BookCall, BookReply, BookRequest, ReplyBody};
 use book_turn::call_fault::CallFault;
 use book_turn::turn::Receipt;
 use federation_book::Book;
@@ -92,10 +92,10 @@ fn leaving_after(number: u64, close: bool) -> Option<SessionEnd>
 }
 
 // The requests that ask for a change are listed; all others read.
-fn asks_change(call: &BookRequest) -> bool
-    ensures { result ≡ asks_change call.now }
+fn asks_change(request: &BookRequest) -> bool
+    ensures { result ≡ asks_change request.now }
 {
-    match call {
+    match request {
         BookRequest::Upload { .. } => true,
         BookRequest::Remove { .. } => true,
         BookRequest::SetRules { .. } => true,
@@ -375,7 +375,7 @@ impl Talk {
     }
 
     // What is wanted for a call: its answer, where it asks for clashes that are kept; else it is to be made.
-    fn ask(&mut self, waiting: Waiting, call: BookRequest) -> Result<Want, AllocError>
+    fn ask(&mut self, waiting: Waiting, call: BookCall) -> Result<Want, AllocError>
         requires open_ { self.old.leaving ≡ None }
         ensures want { IfOk result (λ want. AsksFor waiting call self.old want self.new) }
         ensures err { OnErr result (self.new ≡ self.old) }
@@ -398,12 +398,12 @@ impl Talk {
     }
 
     // The call is to be made, and waits.
-    fn wait(&mut self, waiting: Waiting, call: BookRequest) -> Want
+    fn wait(&mut self, waiting: Waiting, call: BookCall) -> Want
         ensures want { result ≡ Want.Call call }
         ensures state { self.new ≡ with_call (waiting_on call waiting) self.old }
     {
-        let changes = asks_change(&call);
-        let reads = project_read(&call);
+        let changes = asks_change(&call.request);
+        let reads = project_read(&call.request);
         self.waits = Some(Waiting {
             kind: waiting.kind,
             close: waiting.close,

@@ -2,7 +2,7 @@
 use crate::end::SessionEnd;
 use bcf_http::ReplyKind;
 use bim_model::Bytes;
-use book_history::BookRequest;
+use book_history::BookCall;
 
 /// What is to be done next for a connection.
 #[derive(Drop)]
@@ -12,7 +12,7 @@ pub enum Want {
     /// These bytes are to be written.
     Write(Bytes),
     /// The book is to be called, and the receipt given to `answer`.
-    Call(BookRequest),
+    Call(BookCall),
     /// The session has ended.
     Leave(SessionEnd),
 }

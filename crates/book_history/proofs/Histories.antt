@@ -9,9 +9,9 @@ use Rattle.book_turn.specs.Entries.{listed, AllBefore}
 use Rattle.book_history.specs.declared.changes.Entry.{Entry}
 use Rattle.book_history.specs.declared.changes.Change.{Change}
 use Rattle.book_history.specs.declared.limits.Settings.{Settings}
-use Rattle.book_history.specs.declared.requests.BookRequest.{BookRequest}
+use Rattle.book_history.specs.declared.requests.BookCall.{BookCall}
 use Rattle.book_history.specs.History.{at_turn, of_turn, IsBefore}
-use Rattle.book_history.specs.Requests.{Outcome, Refusal, Answer, Accepted, added_by, entry_by, outcome_of}
+use Rattle.book_history.specs.Requests.{Outcome, Refusal, Answer, Accepted, added_by, entry_by, outcome_in}
 use Rattle.book_history.specs.Runs.{Step, Follows, Runs, IsOneThread}
 
 abbrev pub AreOf : ℕ → List Entry → Type 0
@@ -27,9 +27,9 @@ made_of stamp (Refusal f) = tt
 made_of stamp (Answer body) = tt
 made_of stamp (Accepted number change) = (refl, tt)
 
--- an added entry is of its request's turn
-pub added_of : (settings : Settings) (h : List Entry) (stamp : Stamp) (request : BookRequest) → AreOf stamp.turn (added_by settings h stamp request)
-added_of settings h stamp request = made_of stamp (outcome_of settings h request)
+-- an added entry is of its call's turn
+pub added_of : (settings : Settings) (h : List Entry) (stamp : Stamp) (call : BookCall) → AreOf stamp.turn (added_by settings h stamp call)
+added_of settings h stamp call = made_of stamp (outcome_in settings h stamp.turn call)
 
 pub above_of : (turn top : ℕ) (es : List Entry) → top < turn → AreOf turn es → AreAbove top es
 above_of turn top [] lt are = tt
@@ -113,14 +113,14 @@ of_turn-new t h more before own =
 
 -- a run goes on by one more step
 pub Runs_push : (settings : Settings) (done : List Step) (h : List Entry) (steps : List Step) (mid : List Entry) (s : Step) → Runs settings done h steps mid
-    → Follows (done ++ steps) s → Runs settings done h (steps ++ s ∷ []) (mid ++ added_by settings mid s.stamp s.request)
+    → Follows (done ++ steps) s → Runs settings done h (steps ++ s ∷ []) (mid ++ added_by settings mid s.stamp s.call)
 Runs_push settings done h [] mid s runs follows = (
   rw (append-nil done) at follows,
-  ap (λ es. es ++ added_by settings es s.stamp s.request) runs,
+  ap (λ es. es ++ added_by settings es s.stamp s.call) runs,
 )
 Runs_push settings done h (x ∷ xs) mid s runs follows = (
   runs.0,
-  Runs_push settings (done ++ x ∷ []) (h ++ added_by settings h x.stamp x.request) xs mid s runs.1
+  Runs_push settings (done ++ x ∷ []) (h ++ added_by settings h x.stamp x.call) xs mid s runs.1
       (let e : done ++ x ∷ xs ≡ (done ++ x ∷ []) ++ xs = sym (append_assoc done (x ∷ []) xs) in rw e at follows),
 )
 

@@ -7,8 +7,9 @@ use Rattle.book_history.specs.declared.changes.Entry.{Entry}
 use Rattle.book_history.specs.declared.requests.BookRequest.{BookRequest}
 use Rattle.book_history.specs.declared.requests.BookRequest.TheVariants as request
 use Rattle.book_history.specs.History.{state_of}
-use Rattle.book_history.specs.Requests.{Outcome, Refusal, Answer, Accepted, entry_by, entry_added, outcome_of}
+use Rattle.book_history.specs.Requests.{Outcome, Refusal, Answer, Accepted, entry_by, entry_added, outcome_in}
 use Rattle.book_history.specs.Legal.{IsGiven, IsLegal}
+use Rattle.book_history.specs.declared.requests.BookCall.{BookCall}
 use Rattle.book_history.proofs.States.{within}
 use Rattle.book_history.proofs.Growing.{Holds, stays}
 
@@ -46,5 +47,5 @@ stamped_by stamp (Accepted number change) e is =
     inj p = cc
 
 -- an added entry carries the stamp of the call
-pub stamped : (s : Settings) (h : List Entry) (stamp : Stamp) (r : BookRequest) (e : Entry) → entry_added s h stamp r ≡ Some e → e.stamp ≡ stamp
-stamped s h stamp r e is = stamped_by stamp (outcome_of s h r) e is
+pub stamped : (s : Settings) (h : List Entry) (stamp : Stamp) (c : BookCall) (e : Entry) → entry_added s h stamp c ≡ Some e → e.stamp ≡ stamp
+stamped s h stamp c e is = stamped_by stamp (outcome_in s h stamp.turn c) e is

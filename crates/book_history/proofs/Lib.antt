@@ -6,6 +6,7 @@ pub mod Same
 pub mod States
 pub mod Growing
 pub mod Legality
+pub mod Ahead
 pub mod Live
 pub mod Given
 pub mod Histories

@@ -1,5 +1,5 @@
 -- What becomes of a request at a history: the one definition from which its reply and its entry follow.
-use Rattle.std.specs.Prelude.{ℕ, ◌+◌, ◌%◌, List, [], ◌∷◌, ◌++◌, length, map, slice_index_or, Option, Some, None, option_map}
+use Rattle.std.specs.Prelude.{ℕ, ◌+◌, ◌%◌, nat_le, if◌then◌else◌, List, [], ◌∷◌, ◌++◌, length, map, slice_index_or, Option, Some, None, option_map}
 use Rattle.std.specs.List.{flat_map}
 use Rattle.bim_model.specs.declared.author.Author.{Author}
 use Rattle.bim_model.specs.Models.{triangle_count}
@@ -20,11 +20,12 @@ use Rattle.book_history.specs.declared.limits.Settings.{Settings}
 use Rattle.book_history.specs.declared.requests.Wanted.{Wanted}
 use Rattle.book_history.specs.declared.requests.BookRequest.{BookRequest}
 use Rattle.book_history.specs.declared.requests.BookRequest.TheVariants as request
+use Rattle.book_history.specs.declared.requests.BookCall.{BookCall}
 use Rattle.book_history.specs.declared.changes.Change.{Change}
 use Rattle.book_history.specs.declared.changes.Change.TheVariants as change
 use Rattle.book_history.specs.declared.changes.Entry.{Entry}
 use Rattle.book_history.specs.declared.book_fault.BookFault.{BookFault}
-use Rattle.book_history.specs.declared.book_fault.BookFault.TheVariants.{NoProject, NoWork, NoTopic, NoComment, NoViewpoint}
+use Rattle.book_history.specs.declared.book_fault.BookFault.TheVariants.{NoProject, NoWork, NoTopic, NoComment, NoViewpoint, TurnAhead}
 use Rattle.book_history.specs.declared.replies.ReplyBody.{ReplyBody}
 use Rattle.book_history.specs.declared.replies.ReplyBody.TheVariants as reply
 use Rattle.book_history.specs.declared.replies.BookReply.{BookReply}
@@ -298,19 +299,35 @@ entry_by stamp (Refusal fault) = None
 entry_by stamp (Answer body) = None
 entry_by stamp (Accepted number change) = Some (entry_of stamp number change)
 
--- the entry that a request adds at a history
-abbrev pub entry_added : Settings → List Entry → Stamp → BookRequest → Option Entry
-entry_added settings history stamp request = entry_by stamp (outcome_of settings history request)
+-- ---- calls: requests, each with the turn that it gives, if it gives one
+
+-- a call that gives no turn
+abbrev pub without_turn : BookRequest → BookCall
+without_turn request = record { seen = None; request = request }
+
+-- the turn that a call gives isn't below its own
+abbrev pub ahead : ℕ → Option ℕ → Option BookFault
+ahead turn None = None
+ahead turn (Some given) = if nat_le turn given then Some (TurnAhead given turn) else None
+
+-- what becomes of a call in a turn: it is refused for the turn that it gives, else it is what becomes of its request
+abbrev pub outcome_in : Settings → List Entry → ℕ → BookCall → Outcome
+outcome_in settings history turn call =
+    refused_or (ahead turn call.seen) (outcome_of settings history call.request)
+
+-- the entry that a call adds at a history
+abbrev pub entry_added : Settings → List Entry → Stamp → BookCall → Option Entry
+entry_added settings history stamp call = entry_by stamp (outcome_in settings history stamp.turn call)
 
 -- the same as a list
-abbrev pub added_by : Settings → List Entry → Stamp → BookRequest → List Entry
-added_by settings history stamp request = listed (entry_added settings history stamp request)
+abbrev pub added_by : Settings → List Entry → Stamp → BookCall → List Entry
+added_by settings history stamp call = listed (entry_added settings history stamp call)
 
--- the reply to a request of a stamp at a history
-abbrev pub reply_of : Settings → List Entry → Stamp → BookRequest → BookReply
-reply_of settings history stamp request = record {
-  body = body_of history (outcome_of settings history request);
-  horizon = horizon_of settings.projects (history ++ added_by settings history stamp request);
+-- the reply to a call of a stamp at a history
+abbrev pub reply_of : Settings → List Entry → Stamp → BookCall → BookReply
+reply_of settings history stamp call = record {
+  body = body_of history (outcome_in settings history stamp.turn call);
+  horizon = horizon_of settings.projects (history ++ added_by settings history stamp call);
 }
 
 -- what contracts see of a book

@@ -3,13 +3,13 @@ use Rattle.std.specs.Prelude.{◌≡◌, ℕ, ◌+◌, ◌==◌, ◌++◌, List,
 use Rattle.book_turn.specs.declared.object.Stamp.{Stamp}
 use Rattle.book_history.specs.declared.limits.Settings.{Settings}
 use Rattle.book_history.specs.declared.changes.Entry.{Entry}
-use Rattle.book_history.specs.declared.requests.BookRequest.{BookRequest}
+use Rattle.book_history.specs.declared.requests.BookCall.{BookCall}
 use Rattle.book_history.specs.Requests.{added_by}
 
 -- a step: a call of the book with the turn that it took and the actor that made it (the stamp's pass)
 pub record Step : Type 0 where
   pub stamp : Stamp
-  pub request : BookRequest
+  pub call : BookCall
 
 -- the step follows those done: it takes the next turn, and is numbered among the steps of its actor
 pub record Follows (done : List Step) (step : Step) : Type 0 where
@@ -21,7 +21,7 @@ abbrev pub Runs : Settings → List Step → List Entry → List Step → List E
 Runs settings done history [] final = final ≡ history
 Runs settings done history (s ∷ ss) final =
     Follows done s
-    × Runs settings (done ++ s ∷ []) (history ++ added_by settings history s.stamp s.request) ss final
+    × Runs settings (done ++ s ∷ []) (history ++ added_by settings history s.stamp s.call) ss final
 
 -- a run of these steps from nothing makes this history: the fold of the entries that its accepted changes add
 abbrev pub IsRun : Settings → List Step → List Entry → Type 0

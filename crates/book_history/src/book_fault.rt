@@ -51,6 +51,11 @@ pub enum BookFault {
         place: u64,
         total: u64,
     },
+    /// K13: the turn that the request gives isn't below its own turn: it hasn't been served before.
+    TurnAhead {
+        given: u64,
+        turn: u64,
+    },
     /// B1: the project has no topic of that identifier.
     NoTopic,
     /// B2: the topic has no comment of that identifier.

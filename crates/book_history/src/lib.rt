@@ -21,6 +21,6 @@ pub use limits::{
     MOST_TOPICS, MOST_VIEWPOINTS, Settings,
 };
 pub use replies::{BookReply, ReplyBody};
-pub use requests::{BookRequest, Wanted};
+pub use requests::{BookCall, BookRequest, Wanted};
 pub use weights::{elements_in, model_text, triangles_among};
 pub use work_order::WorkOrder;

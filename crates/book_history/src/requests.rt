@@ -140,6 +140,13 @@ pub enum BookRequest {
     },
 }
 
+/// A request with the turn that it gives, if it gives one: its reply is to know all that was accepted up to that turn.
+#[derive(Drop)]
+pub struct BookCall {
+    pub seen: Option<u64>,
+    pub request: BookRequest,
+}
+
 /// Which version is asked for.
 #[derive(Clone, Copy, Debug, PartialEq, Eq)]
 pub enum Wanted {

@@ -5,7 +5,7 @@ use Rattle.book_turn.specs.Passes.{KeepsNumbers}
 use Rattle.book_turn.proofs.Prefixes.{before_append, before_later, after_append, after_earlier}
 use Rattle.book_history.specs.declared.limits.Settings.{Settings}
 use Rattle.book_history.specs.declared.changes.Entry.{Entry}
-use Rattle.book_history.specs.declared.requests.BookRequest.{BookRequest}
+use Rattle.book_history.specs.declared.requests.BookCall.{BookCall}
 use Rattle.book_history.specs.declared.replies.BookReply.{BookReply}
 use Rattle.book_history.specs.Requests.{added_by}
 use Rattle.book_history.proofs.Histories.{added_of}
@@ -17,12 +17,12 @@ all_of turn [] are = tt
 all_of turn (e ∷ es) are = (are.0, all_of turn es are.1)
 
 -- what a call adds is of its turn
-pub added_all : (settings : Settings) (h : List Entry) (turn : ℕ) (v : CallerSeen) (request : BookRequest) → AllOf turn (added_by settings h (stamp_in turn v) request)
-added_all settings h turn v request = all_of turn (added_by settings h (stamp_in turn v) request) (added_of settings h (stamp_in turn v) request)
+pub added_all : (settings : Settings) (h : List Entry) (turn : ℕ) (v : CallerSeen) (call : BookCall) → AllOf turn (added_by settings h (stamp_in turn v) call)
+added_all settings h turn v call = all_of turn (added_by settings h (stamp_in turn v) call) (added_of settings h (stamp_in turn v) call)
 
-pub takes_call : (settings : Settings) (request : BookRequest) (turn : ℕ) (reply : BookReply) (v w : BookPass) → KeepsNumbers v w → IsAnswered settings request turn reply v w
-    → TakesCall settings request turn reply (caller_of v) (caller_of w)
-takes_call settings request turn reply v w keeps a = record {
+pub takes_call : (settings : Settings) (call : BookCall) (turn : ℕ) (reply : BookReply) (v w : BookPass) → KeepsNumbers v w → IsAnswered settings call turn reply v w
+    → TakesCall settings call turn reply (caller_of v) (caller_of w)
+takes_call settings call turn reply v w keeps a = record {
   others = a.news;
   takes = record {
     keeps = record { number = keeps.number; numbers = keeps.numbers };
@@ -33,7 +33,7 @@ takes_call settings request turn reply v w keeps a = record {
     since = a.takes.since;
     below = a.takes.before;
     not_own = a.takes.others;
-    in_turn = added_all settings (v.seen ++ a.news) turn (caller_of v) request;
+    in_turn = added_all settings (v.seen ++ a.news) turn (caller_of v) call;
   };
   replied = a.replied;
 }

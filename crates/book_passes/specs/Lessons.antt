@@ -5,7 +5,7 @@ use Rattle.book_turn.specs.Entries.{AllBefore, AllAfter, calls_by}
 use Rattle.book_turn.specs.Passes.{PassState, Answered, GotNothing}
 use Rattle.book_history.specs.declared.limits.Settings.{Settings}
 use Rattle.book_history.specs.declared.changes.Entry.{Entry}
-use Rattle.book_history.specs.declared.requests.BookRequest.{BookRequest}
+use Rattle.book_history.specs.declared.requests.BookCall.{BookCall}
 use Rattle.book_history.specs.declared.replies.BookReply.{BookReply}
 use Rattle.book_history.specs.Requests.{reply_of, entry_added}
 
@@ -54,9 +54,9 @@ abbrev pub own_of : CallerSeen → List Entry → List Entry
 own_of v es = calls_by (λ (e : Entry). e.stamp.pass) v.numbers es
 
 -- a call of the book is answered in a turn
-abbrev pub IsAnswered : Settings → BookRequest → ℕ → BookReply → BookPass → BookPass → Type 0
-IsAnswered settings request turn reply v w =
-    Answered stamp_of reply_of entry_added settings turn request reply v w
+abbrev pub IsAnswered : Settings → BookCall → ℕ → BookReply → BookPass → BookPass → Type 0
+IsAnswered settings call turn reply v w =
+    Answered stamp_of reply_of entry_added settings turn call reply v w
 
 -- a turn is taken, and nothing is added
 abbrev pub IsIdle : BookPass → BookPass → Type 0

@@ -6,7 +6,7 @@ ghost use Rattle.federation_book.specs.inner.AnyTime.{IsFree, GivenStays};
 
 use crate::samples::to_read;
 use bim_model::{Shared, Steps};
-use book_history::{BookFault, BookRequest, ReplyBody, Stamp, Wanted};
+use book_history::{BookCall, BookFault, BookRequest, ReplyBody, Stamp, Wanted};
 use bucket_check::{BucketWork, Room, SetPair, check};
 use bucket_grid::Cell;
 use federation_book::Book;
@@ -22,7 +22,11 @@ pub fn ask(book: &mut Book, turn: u64, request: BookRequest) -> Result<ReplyBody
     ensures before { OnOk result (IsBefore (turn + 1) book.new.journal) }
     ensures stays { OnOk result (GivenStays book.old book.new) }
 {
-    Ok(book.act(stamp(turn), request)?.body)
+    let call = BookCall {
+        seen: None,
+        request,
+    };
+    Ok(book.act(stamp(turn), call)?.body)
 }
 
 fn stamp(turn: u64) -> Stamp
@@ -113,7 +117,11 @@ pub fn take(
     ensures given { IfOk result (IsGiven book.new.settings book.new.journal) }
     ensures stays { OnOk result (GivenStays book.old book.new) }
 {
-    let body = book.act(stamp(turn), BookRequest::TakeWork { seat })?.body;
+    let call = BookCall {
+        seen: None,
+        request: BookRequest::TakeWork { seat },
+    };
+    let body = book.act(stamp(turn), call)?.body;
     let ReplyBody::Work(order) = body else {
         return Err(Fail::from("no work"));
     };

@@ -7,7 +7,9 @@ use crate::desk::change;
 use crate::samples::to_post;
 use bcf_topics::Topic;
 use bim_model::{Model, NamedModel, Shared, Text, id_of};
-use book_history::{BookFault, BookRequest, Change, Entry, Limits, ReplyBody, Stamp, Wanted};
+use book_history::{
+    BookCall, BookFault, BookRequest, Change, Entry, Limits, ReplyBody, Stamp, Wanted,
+};
 use federation_book::Book;
 use std::alloc::{AllocError, Global};
 use std::process::Abort;
@@ -34,7 +36,11 @@ fn post(
     ensures { OnOk result (IsBefore (turn + 1) book.new.journal) }
 {
     let request = to_post(alloc, project, title)?;
-    let reply = book.act(stamp(turn), request)?;
+    let call = BookCall {
+        seen: None,
+        request,
+    };
+    let reply = book.act(stamp(turn), call)?;
     Ok(reply.body)
 }
 
@@ -42,7 +48,11 @@ fn list(book: &mut Book, turn: u64, project: u128) -> Result<ReplyBody, AllocErr
     requires { IsBefore turn book.old.journal }
     ensures { OnOk result (IsBefore (turn + 1) book.new.journal) }
 {
-    let reply = book.act(stamp(turn), BookRequest::ListTopics { project })?;
+    let call = BookCall {
+        seen: None,
+        request: BookRequest::ListTopics { project },
+    };
+    let reply = book.act(stamp(turn), call)?;
     Ok(reply.body)
 }
 
@@ -192,7 +202,11 @@ fn try_version(
 {
     let version = Wanted::Newest;
     let request = BookRequest::ReadVersion { project, version };
-    let reply = book.act(stamp(turn), request)?;
+    let call = BookCall {
+        seen: None,
+        request,
+    };
+    let reply = book.act(stamp(turn), call)?;
     is_version(rt, &reply.body, wanted, names);
     drop(reply);
     Ok(())

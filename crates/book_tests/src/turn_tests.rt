@@ -5,7 +5,7 @@ ghost use Rattle.federation_book.specs.inner.AnyTime.{IsFree};
 use crate::project_tests::{is_list, is_refused, is_topic};
 use crate::samples::to_post;
 use bim_model::id_of;
-use book_history::{BookRequest, Entry, Limits, ReplyBody};
+use book_history::{BookCall, BookRequest, Entry, Limits, ReplyBody};
 use book_turn::pass::Pass;
 use book_turn::turn::Turn;
 use federation_book::Book;
@@ -25,7 +25,11 @@ fn ask<R: Wait>(
     requires legal { IsFree request }
     ensures { IsSingle turn.now pass.new }
 {
-    match turn.call(rt, pass, request) {
+    let call = BookCall {
+        seen: None,
+        request,
+    };
+    match turn.call(rt, pass, call) {
         Ok(receipt) => Some((receipt.turn, receipt.reply.body)),
         Err(_) => None,
     }

@@ -14,7 +14,7 @@ use Rattle.book_history.specs.Refusals.{first_of}
 use Rattle.book_history.specs.Projects.{ProjectState, newest}
 use Rattle.book_history.specs.Versions.{is_done, version_at}
 use Rattle.book_history.specs.History.{state_of}
-use Rattle.book_history.specs.Requests.{Accepted, refused_or, outcome_of, body_of, entry_by, added_by}
+use Rattle.book_history.specs.Requests.{Accepted, refused_or, outcome_of, body_of, without_turn, entry_by, added_by}
 use Rattle.check_workers.specs.WorkerTurns.{AreDone, IsFinishTold}
 use Rattle.check_workers.specs.declared.work.Worked.TheVariants.{Done, Already, Dropped}
 
@@ -42,7 +42,7 @@ one_done stamp p v k cell false true = tt
 one_done stamp p v k cell false false = ((v, cell, refl), tt)
 
 -- it adds that a bucket is checked, or nothing
-pub finish_adds : (settings : Settings) (h : List Entry) (stamp : Stamp) (set : SetValue) → AreDone (added_by settings h stamp (Finish set))
+pub finish_adds : (settings : Settings) (h : List Entry) (stamp : Stamp) (set : SetValue) → AreDone (added_by settings h stamp (without_turn (Finish set)))
 finish_adds settings h stamp set =
     let project : ProjectState = state_of set.work.project h in
     one_done stamp set.work.project set.work.version (newest project) set.work.cell

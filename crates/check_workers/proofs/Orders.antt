@@ -14,7 +14,7 @@ use Rattle.book_history.specs.declared.replies.ReplyBody.TheVariants.{Work, Refu
 use Rattle.book_history.specs.Orders.{OrderValue, order_of}
 use Rattle.book_history.specs.Versions.{VersionState, live_in, first_live}
 use Rattle.book_history.specs.History.{state_of, left_in, live_of, left_all, project_numbers}
-use Rattle.book_history.specs.Requests.{orders_in, orders_from, orders_of, all_orders, order_for, outcome_of, body_of, added_by, entry_by}
+use Rattle.book_history.specs.Requests.{orders_in, orders_from, orders_of, all_orders, order_for, outcome_of, body_of, without_turn, added_by, entry_by}
 use Rattle.book_history.specs.Legal.{IsLegal}
 use Rattle.book_history.proofs.Given.{given_out}
 use Rattle.book_history.proofs.Legality.{given_later}
@@ -70,7 +70,7 @@ adds_none stamp [] seat = refl
 adds_none stamp (o ∷ os) seat = refl
 
 -- a call for work adds nothing
-pub take_adds_none : (settings : Settings) (h : List Entry) (stamp : Stamp) (seat : ℕ) → added_by settings h stamp (TakeWork seat) ≡ []
+pub take_adds_none : (settings : Settings) (h : List Entry) (stamp : Stamp) (seat : ℕ) → added_by settings h stamp (without_turn (TakeWork seat)) ≡ []
 take_adds_none settings h stamp seat = adds_none stamp (all_orders settings.projects h) seat
 
 -- the set of an order that was given out may be brought at every history that begins so

@@ -13,14 +13,14 @@ use Rattle.bucket_check.specs.ClashSets.{SetValue}
 use Rattle.book_history.specs.declared.limits.Settings.{Settings}
 use Rattle.book_history.specs.declared.changes.Entry.{Entry}
 use Rattle.book_history.specs.declared.book_fault.BookFault.TheVariants.{NoWork}
-use Rattle.book_history.specs.declared.requests.BookRequest.{BookRequest}
+use Rattle.book_history.specs.declared.requests.BookCall.{BookCall}
 use Rattle.book_history.specs.declared.requests.BookRequest.TheVariants.{TakeWork, Finish}
 use Rattle.book_history.specs.declared.replies.BookReply.{BookReply}
 use Rattle.book_history.specs.declared.replies.ReplyBody.{ReplyBody}
 use Rattle.book_history.specs.declared.replies.ReplyBody.TheVariants.{Work, Refused}
 use Rattle.book_history.specs.Orders.{OrderValue}
 use Rattle.book_history.specs.History.{left_all}
-use Rattle.book_history.specs.Requests.{Outcome, Refusal, Answer, Accepted, outcome_of, body_of, entry_by, added_by}
+use Rattle.book_history.specs.Requests.{Outcome, Refusal, Answer, Accepted, without_turn, outcome_of, outcome_in, body_of, entry_by, added_by}
 use Rattle.book_history.specs.Legal.{IsLegal}
 use Rattle.book_passes.specs.Lessons.{BookPass, CallerSeen, IsAnswered, TakesTurn, caller_of, own_of, stamp_of, stamp_in}
 use Rattle.book_passes.proofs.Learning.{takes_call, takes_idly, learns_turn, learns_trans, learns_none}
@@ -64,8 +64,8 @@ made_of stamp (Answer body) = tt
 made_of stamp (Accepted number change) = (refl, tt)
 
 -- what a call adds carries its pass
-added_made : (settings : Settings) (h : List Entry) (stamp : Stamp) (request : BookRequest) → AreMadeBy stamp.pass (added_by settings h stamp request)
-added_made settings h stamp request = made_of stamp (outcome_of settings h request)
+added_made : (settings : Settings) (h : List Entry) (stamp : Stamp) (call : BookCall) → AreMadeBy stamp.pass (added_by settings h stamp call)
+added_made settings h stamp call = made_of stamp (outcome_in settings h stamp.turn call)
 
 own_append : (v : CallerSeen) (a b : List Entry) → own_of v (a ++ b) ≡ own_of v a ++ own_of v b
 own_append v a b = calls_by-append (λ (e : Entry). e.stamp.pass) v.numbers a b
@@ -106,23 +106,23 @@ failed_teaches v w (PassSpent spent) keeps failed = subst (λ (x : BookPass). Te
 -- ---- the two calls
 
 -- a call for work
-pub asked_teaches : (settings : Settings) (seat turn : ℕ) (reply : BookReply) (v w : BookPass) → KeepsNumbers v w → IsAnswered settings (TakeWork seat) turn reply v w → Teaches (caller_of v) (caller_of w)
+pub asked_teaches : (settings : Settings) (seat turn : ℕ) (reply : BookReply) (v w : BookPass) → KeepsNumbers v w → IsAnswered settings (without_turn (TakeWork seat)) turn reply v w → Teaches (caller_of v) (caller_of w)
 asked_teaches settings seat turn reply v w keeps a =
-    let t = takes_call settings (TakeWork seat) turn reply v w keeps a in
+    let t = takes_call settings (without_turn (TakeWork seat)) turn reply v w keeps a in
     let none = take_adds_none settings (v.seen ++ t.others) (stamp_in turn (caller_of v)) seat in
-    teaches_turn turn t.others (added_by settings (v.seen ++ t.others) (stamp_in turn (caller_of v)) (TakeWork seat)) (caller_of v) (caller_of w) t.takes (subst AreDone (sym none) tt)
-    (added_made settings (v.seen ++ t.others) (stamp_in turn (caller_of v)) (TakeWork seat))
+    teaches_turn turn t.others (added_by settings (v.seen ++ t.others) (stamp_in turn (caller_of v)) (without_turn (TakeWork seat))) (caller_of v) (caller_of w) t.takes (subst AreDone (sym none) tt)
+    (added_made settings (v.seen ++ t.others) (stamp_in turn (caller_of v)) (without_turn (TakeWork seat)))
 
 -- a set that is brought
-pub brought_teaches : (settings : Settings) (set : SetValue) (turn : ℕ) (reply : BookReply) (v w : BookPass) → KeepsNumbers v w → IsAnswered settings (Finish set) turn reply v w → Teaches (caller_of v) (caller_of w)
+pub brought_teaches : (settings : Settings) (set : SetValue) (turn : ℕ) (reply : BookReply) (v w : BookPass) → KeepsNumbers v w → IsAnswered settings (without_turn (Finish set)) turn reply v w → Teaches (caller_of v) (caller_of w)
 brought_teaches settings set turn reply v w keeps a =
-    let t = takes_call settings (Finish set) turn reply v w keeps a in
-    teaches_turn turn t.others (added_by settings (v.seen ++ t.others) (stamp_in turn (caller_of v)) (Finish set)) (caller_of v) (caller_of w) t.takes
+    let t = takes_call settings (without_turn (Finish set)) turn reply v w keeps a in
+    teaches_turn turn t.others (added_by settings (v.seen ++ t.others) (stamp_in turn (caller_of v)) (without_turn (Finish set))) (caller_of v) (caller_of w) t.takes
     (finish_adds settings (v.seen ++ t.others) (stamp_in turn (caller_of v)) set)
-    (added_made settings (v.seen ++ t.others) (stamp_in turn (caller_of v)) (Finish set))
+    (added_made settings (v.seen ++ t.others) (stamp_in turn (caller_of v)) (without_turn (Finish set)))
 
 -- where a call for work is refused, no bucket of a live version is undone in what the pass has then seen
-pub none_left : (settings : Settings) (seat turn : ℕ) (reply : BookReply) (v w : BookPass) → IsAnswered settings (TakeWork seat) turn reply v w → reply.body ≡ Refused NoWork
+pub none_left : (settings : Settings) (seat turn : ℕ) (reply : BookReply) (v w : BookPass) → IsAnswered settings (without_turn (TakeWork seat)) turn reply v w → reply.body ≡ Refused NoWork
     → left_all settings.projects w.seen ≡ 0
 none_left settings seat turn reply v w a refused =
     let h : List Entry = v.seen ++ a.news in
@@ -153,7 +153,7 @@ nothing_left settings seat v w worked (inr brings) is = absurd (not_told brings.
 -- ---- the replies
 
 -- a call for work that gives none is refused
-pub finds_none : (settings : Settings) (seat turn : ℕ) (reply : BookReply) (v w : BookPass) → IsAnswered settings (TakeWork seat) turn reply v w
+pub finds_none : (settings : Settings) (seat turn : ℕ) (reply : BookReply) (v w : BookPass) → IsAnswered settings (without_turn (TakeWork seat)) turn reply v w
     → ((order : OrderValue) → reply.body ≡ Work order → ⊥) → reply.body ≡ Refused NoWork
 finds_none settings seat turn reply v w a no_work =
     let h : List Entry = v.seen ++ a.news in
@@ -168,15 +168,15 @@ finds_none settings seat turn reply v w a no_work =
     of_taken h is (inr some) = absurd (no_work some.0 (is ∙ some.1))
 
 -- the set of an order that was given may be brought at what the pass has seen then
-pub may_bring : (settings : Settings) (seat turn : ℕ) (reply : BookReply) (order : OrderValue) (set : SetValue) (v w : BookPass) → IsAnswered settings (TakeWork seat) turn reply v w
+pub may_bring : (settings : Settings) (seat turn : ℕ) (reply : BookReply) (order : OrderValue) (set : SetValue) (v w : BookPass) → IsAnswered settings (without_turn (TakeWork seat)) turn reply v w
     → reply.body ≡ Work order → IsFoundFor order set → IsBucket set.work.grid.boxes set.work.cell → IsLegal settings w.seen (Finish set)
 may_bring settings seat turn reply order set v w a given found bucket =
     let h : List Entry = v.seen ++ a.news in
     let is : body_of h (outcome_of settings h (TakeWork seat)) ≡ Work order = sym (ap (λ (r : BookReply). r.body) a.replied) ∙ given in
     subst (λ (es : List Entry). IsLegal settings es (Finish set)) (sym a.seen)
-    (set_legal settings h (added_by settings h (stamp_in turn (caller_of v)) (TakeWork seat)) seat order set is found bucket)
+    (set_legal settings h (added_by settings h (stamp_in turn (caller_of v)) (without_turn (TakeWork seat))) seat order set is found bucket)
 
 -- what is answered to a set
-pub is_told : (settings : Settings) (turn : ℕ) (reply : BookReply) (set : SetValue) (v w : BookPass) → IsAnswered settings (Finish set) turn reply v w → IsFinishTold reply.body
+pub is_told : (settings : Settings) (turn : ℕ) (reply : BookReply) (set : SetValue) (v w : BookPass) → IsAnswered settings (without_turn (Finish set)) turn reply v w → IsFinishTold reply.body
 is_told settings turn reply set v w a =
     subst IsFinishTold (sym (ap (λ (r : BookReply). r.body) a.replied)) (finish_told settings (v.seen ++ a.news) set)

@@ -11,6 +11,7 @@ use Rattle.book_history.specs.declared.replies.BookReply.{BookReply}
 use Rattle.book_history.specs.declared.replies.ReplyBody.{ReplyBody}
 use Rattle.book_history.specs.declared.replies.ReplyBody.TheVariants.{Work, Finished, Refused}
 use Rattle.book_history.specs.Orders.{OrderValue, order_of}
+use Rattle.book_history.specs.Requests.{without_turn}
 use Rattle.book_passes.specs.Lessons.{BookPass, CallerSeen, IsAnswered, Learns, own_of}
 use Rattle.check_workers.specs.declared.work.Worked.{Worked}
 use Rattle.check_workers.specs.declared.work.Worked.TheVariants.{Done, Already, Dropped, Nothing}
@@ -58,7 +59,7 @@ pub record Teaches (v w : CallerSeen) : Type 0 where
 pub record FindsNone (settings : Settings) (seat : ℕ) (v w : BookPass) : Type 0 where
   pub turn : ℕ
   pub reply : BookReply
-  pub asked : IsAnswered settings (TakeWork seat) turn reply v w
+  pub asked : IsAnswered settings (without_turn (TakeWork seat)) turn reply v w
   pub refused : reply.body ≡ Refused NoWork
 
 -- A bucket was taken out at one turn, and the set that was found for it was brought at another.
@@ -67,13 +68,13 @@ pub record Brings (settings : Settings) (seat : ℕ) (v w : BookPass) (worked : 
   pub turn : ℕ
   pub reply : BookReply
   pub order : OrderValue
-  pub asked : IsAnswered settings (TakeWork seat) turn reply v between
+  pub asked : IsAnswered settings (without_turn (TakeWork seat)) turn reply v between
   pub given : reply.body ≡ Work order
   pub set : SetValue
   pub found : IsFoundFor order set
   pub later : ℕ
   pub answer : BookReply
-  pub brought : IsAnswered settings (Finish set) later answer between w
+  pub brought : IsAnswered settings (without_turn (Finish set)) later answer between w
   pub told : tells answer.body worked
 
 -- a worker's turns

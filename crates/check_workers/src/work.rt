@@ -8,7 +8,7 @@ ghost use Rattle.check_workers.specs.WorkerTurns.{IsFoundFor, IsFinishTold, tell
 
 use bim_model::{Shared, Steps};
 use bim_net::Gate;
-use book_history::{BookFault, BookRequest, ReplyBody, WorkOrder};
+use book_history::{BookCall, BookFault, BookRequest, ReplyBody, WorkOrder};
 use book_turn::call_fault::CallFault;
 use book_turn::pass::Pass;
 use book_turn::turn::Turn;
@@ -84,7 +84,11 @@ pub fn work_one<R: Wait, G: Gate>(
     ensures worked { IfOk result (WorksOne turn.now.settings seat pass.old pass.new) }
 {
     gate.before_call(pass.number(), idle);
-    let receipt = turn.call(rt, pass, BookRequest::TakeWork { seat })?;
+    let call = BookCall {
+        seen: None,
+        request: BookRequest::TakeWork { seat },
+    };
+    let receipt = turn.call(rt, pass, call)?;
     let ReplyBody::Work(order) = receipt.reply.body else {
         return Ok(Worked::Nothing);
     };
@@ -92,7 +96,11 @@ pub fn work_one<R: Wait, G: Gate>(
         return Err(CallFault::Memory);
     };
     gate.before_call(pass.number(), false);
-    let receipt = turn.call(rt, pass, BookRequest::Finish { set })?;
+    let call = BookCall {
+        seen: None,
+        request: BookRequest::Finish { set },
+    };
+    let receipt = turn.call(rt, pass, call)?;
     Ok(told_by(receipt.reply.body))
 }
 

@@ -3,7 +3,7 @@ use Rattle.std.proofs.Common.{◌≡◌, ℕ, List, false, refl}
 use Rattle.serde_json.specs.Written.{has_float}
 use Rattle.bim_model.specs.declared.upload.UploadFault.{UploadFault}
 use Rattle.clash_rules.specs.declared.rule_fault.RuleFault.{RuleFault}
-use Rattle.error_json.specs.Errors.{error_tree, error_at, error_of, error_to, error_many, error_named, error_index, error_count, error_full, error_place, error_store, error_newest, error_version}
+use Rattle.error_json.specs.Errors.{error_tree, error_at, error_of, error_to, error_many, error_named, error_index, error_count, error_full, error_place, error_turn, error_store, error_newest, error_version}
 use Rattle.error_json.specs.declared.fault_words.FaultFields.{FaultFields}
 use Rattle.error_json.specs.declared.fault_words.FaultFields.TheVariants.{Bare, Place, Id, Reference, What, Index, Count}
 use Rattle.error_json.specs.FaultWords.{many_word, upload_code, upload_name, upload_fields, rule_code, rule_name, rule_fields}
@@ -48,6 +48,10 @@ full_has_none code name count limit = refl
 pub place_has_none : (code name : List ℕ) (place total : ℕ) → has_float (error_place code name place total) ≡ false
 unfolding error_place
 place_has_none code name place total = refl
+
+pub turn_has_none : (code name : List ℕ) (given turn : ℕ) → has_float (error_turn code name given turn) ≡ false
+unfolding error_turn
+turn_has_none code name given turn = refl
 
 pub store_has_none : (code name : List ℕ) (count limit : ℕ) (what : List ℕ) → has_float (error_store code name count limit what) ≡ false
 unfolding error_store

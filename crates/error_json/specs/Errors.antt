@@ -70,6 +70,14 @@ error_place code name place total =
     (member (codes "place") (number (unsigned place))
     (member (codes "total") (number (unsigned total)) no_members))))
 
+-- an error of a turn that is given, in another turn
+unfoldable pub error_turn : List ℕ → List ℕ → ℕ → ℕ → Data
+error_turn code name given turn =
+    object (member (codes "code") (string code)
+    (member (codes "given") (number (unsigned given))
+    (member (codes "message") (string (message code name))
+    (member (codes "turn") (number (unsigned turn)) no_members))))
+
 -- an error of more than there may be
 unfoldable pub error_full : List ℕ → List ℕ → ℕ → ℕ → Data
 error_full code name count limit =

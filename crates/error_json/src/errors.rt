@@ -1,7 +1,7 @@
 //! Errors as JSON values: a code, the code and its name, and the fields of the fault.
 ghost use Rattle.std.specs.Prelude.{◌≡◌, ◌++◌, codes, string_bytes, IfOk};
 ghost use Rattle.serde_json.specs.View.{view};
-ghost use Rattle.error_json.specs.Errors.{message, error_tree, error_at, error_of, error_to, error_many, error_named, error_index, error_count, error_full, error_place, error_store, error_newest, error_version};
+ghost use Rattle.error_json.specs.Errors.{message, error_tree, error_at, error_of, error_to, error_many, error_named, error_index, error_count, error_full, error_place, error_turn, error_store, error_newest, error_version};
 
 use serde_json::{Value, json};
 use std::alloc::{AllocError, Global};
@@ -122,6 +122,21 @@ pub fn error_place(
 {
     let text = message(alloc, code, name)?;
     json!(in alloc; { "code": code, "message": text.as_str(), "place": place, "total": total })
+}
+
+/// An error of a turn that is given, in another turn.
+#[tactic(auto, unfolding(crate::specs::Errors::error_turn))]
+pub fn error_turn(
+    alloc: Global,
+    code: &str,
+    name: &str,
+    given: u64,
+    turn: u64,
+) -> Result<Value, AllocError>
+    ensures { IfOk result (λ v. view v ≡ error_turn code.now name.now given turn) }
+{
+    let text = message(alloc, code, name)?;
+    json!(in alloc; { "code": code, "given": given, "message": text.as_str(), "turn": turn })
 }
 
 /// An error of more than there may be of a kind of things.

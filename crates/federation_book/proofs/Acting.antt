@@ -8,6 +8,7 @@ use Rattle.book_turn.specs.Entries.{listed}
 use Rattle.book_history.specs.declared.changes.Entry.{Entry}
 use Rattle.book_history.specs.declared.limits.Settings.{Settings}
 use Rattle.book_history.specs.declared.requests.BookRequest.{BookRequest}
+use Rattle.book_history.specs.declared.requests.BookCall.{BookCall}
 use Rattle.book_history.specs.History.{IsBefore}
 use Rattle.book_history.specs.Legal.{IsGiven}
 use Rattle.book_history.specs.declared.replies.ReplyBody.{ReplyBody}
@@ -29,10 +30,10 @@ own_before turn (e ∷ es) are =
     All-cons (λ (x : Entry). x.stamp.turn < turn + 1) e es (let is : e.stamp.turn ≡ turn = are.0 in omega (arith, is)) (own_before turn es are.1)
 
 -- the entries are of turns up to that of the call
-pub after_call : (settings : Settings) (h k : List Entry) (stamp : Stamp) (request : BookRequest) → IsBefore stamp.turn h → k ≡ h ++ added_by settings h stamp request → IsBefore (stamp.turn + 1) k
-after_call settings h k stamp request before is =
+pub after_call : (settings : Settings) (h k : List Entry) (stamp : Stamp) (call : BookCall) → IsBefore stamp.turn h → k ≡ h ++ added_by settings h stamp call → IsBefore (stamp.turn + 1) k
+after_call settings h k stamp call before is =
     subst (IsBefore (stamp.turn + 1)) (sym is)
-    (All-append (λ (e : Entry). e.stamp.turn < stamp.turn + 1) h (added_by settings h stamp request) (later stamp.turn h before) (own_before stamp.turn (added_by settings h stamp request) (added_of settings h stamp request)))
+    (All-append (λ (e : Entry). e.stamp.turn < stamp.turn + 1) h (added_by settings h stamp call) (later stamp.turn h before) (own_before stamp.turn (added_by settings h stamp call) (added_of settings h stamp call)))
 
 pub after_none : (turn : ℕ) (h k : List Entry) → IsBefore turn h → k ≡ h → IsBefore (turn + 1) k
 after_none turn h k before is = subst (IsBefore (turn + 1)) (sym is) (later turn h before)

@@ -2,16 +2,35 @@
 ghost use Rattle.std.specs.Prelude.{◌≡◌, ◌≤◌, ◌+◌, ◌++◌, [], IfOk, OnOk, OnErr};
 ghost use Rattle.book_history.specs.declared.limits.TheConstants.{MOST_PROJECTS};
 ghost use Rattle.book_history.specs.Settings.{IsWithinStated};
-ghost use Rattle.book_history.specs.History.{left_all, IsBefore, IsHistory};
-ghost use Rattle.book_history.specs.Requests.{reply_of, added_by};
+ghost use Rattle.book_history.specs.History.{left_all, horizon_of, IsBefore, IsHistory};
+ghost use Rattle.book_history.specs.Requests.{ahead, without_turn, reply_of, added_by};
 ghost use Rattle.book_history.specs.Legal.{IsLegal};
 ghost use Rattle.federation_book.specs.KeptProjects.{IsKept, settings_of};
 
 use crate::asking::act_on;
 use crate::project::Project;
 use crate::state::State;
-use book_history::{BookReply, BookRequest, Entry, Limits, MOST_PROJECTS, Settings, Stamp};
+use book_history::{
+    BookCall, BookFault, BookReply, BookRequest, Entry, Limits, MOST_PROJECTS, ReplyBody, Settings,
+    Stamp,
+};
 use std::alloc::{AllocError, Global};
+
+// Why a call is refused for the turn that it gives, at its own turn.
+fn ahead(turn: u64, seen: Option<u64>) -> Option<BookFault>
+    ensures { result ≡ ahead turn seen }
+{
+    match seen {
+        None => None,
+        Some(given) => {
+            if turn <= given {
+                Some(BookFault::TurnAhead { given, turn })
+            } else {
+                None
+            }
+        }
+    }
+}
 
 /// The history of the projects, and what follows from it.
 #[derive(Drop)]
@@ -80,15 +99,50 @@ impl Book {
         self.state.left_all()
     }
 
-    /// Answers a request at a turn above those of the journal, and adds its entry where it accepts a change. An
-    /// `Err` leaves the book as it was.
-    pub fn act(&mut self, stamp: Stamp, request: BookRequest) -> Result<BookReply, AllocError>
+    /// Answers a call at a turn above those of the journal, and adds its entry if it accepts a change. A call that
+    /// gives a turn which isn't below its own is refused, and adds none. An `Err` leaves the book as it was.
+    pub fn act(&mut self, stamp: Stamp, call: BookCall) -> Result<BookReply, AllocError>
+        requires after { IsBefore stamp.turn self.old.journal }
+        requires legal { IsLegal self.old.settings self.old.journal call.request }
+        ensures reply { IfOk result (λ reply. reply
+            ≡ reply_of self.old.settings self.old.journal stamp call) }
+        ensures added { OnOk result (self.new.journal
+            ≡ self.old.journal ++ added_by self.old.settings self.old.journal stamp call) }
+        ensures settings { self.new.settings ≡ self.old.settings }
+        ensures after { IsBefore (stamp.turn + 1) self.new.journal }
+        ensures err { OnErr result (self.new ≡ self.old) }
+    {
+        let BookCall { seen, request } = call;
+        match ahead(stamp.turn, seen) {
+            Some(fault) => {
+                drop(request);
+                Ok(self.refusal(fault))
+            }
+            None => self.answer(stamp, request),
+        }
+    }
+
+    // The reply that refuses a call for this fault.
+    fn refusal(&self, fault: BookFault) -> BookReply
+        ensures { result ≡ record {
+          body = ReplyBody.Refused fault;
+          horizon = horizon_of self.now.settings.projects self.now.journal;
+        } }
+    {
+        BookReply {
+            body: ReplyBody::Refused(fault),
+            horizon: self.state.horizon(),
+        }
+    }
+
+    // Answers a request that gives no turn.
+    fn answer(&mut self, stamp: Stamp, request: BookRequest) -> Result<BookReply, AllocError>
         requires after { IsBefore stamp.turn self.old.journal }
         requires legal { IsLegal self.old.settings self.old.journal request }
         ensures reply { IfOk result (λ reply. reply
-            ≡ reply_of self.old.settings self.old.journal stamp request) }
-        ensures added { OnOk result (self.new.journal
-            ≡ self.old.journal ++ added_by self.old.settings self.old.journal stamp request) }
+            ≡ reply_of self.old.settings self.old.journal stamp (without_turn request)) }
+        ensures added { OnOk result (self.new.journal ≡ self.old.journal
+            ++ added_by self.old.settings self.old.journal stamp (without_turn request)) }
         ensures settings { self.new.settings ≡ self.old.settings }
         ensures after { IsBefore (stamp.turn + 1) self.new.journal }
         ensures err { OnErr result (self.new ≡ self.old) }

@@ -1,7 +1,7 @@
 //! The book as an object whose calls take turns.
 
 use crate::book::Book;
-use book_history::{BookReply, BookRequest, Entry, Settings};
+use book_history::{BookCall, BookReply, Entry, Settings};
 use book_turn::object::{SeqObject, Stamp};
 use std::alloc::AllocError;
 
@@ -10,7 +10,7 @@ impl SeqObject for Book {
     ghost use Rattle.book_history.specs.Legal as legal;
     ghost use Rattle.book_history.proofs.Legality.{legal_later, stamped};
 
-    type Request = BookRequest;
+    type Request = BookCall;
 
     type Reply = BookReply;
 
@@ -29,13 +29,13 @@ impl SeqObject for Book {
 
     ghost added_by = { requests.entry_added };
 
-    ghost is_legal = { legal.IsLegal };
+    ghost is_legal = { λ settings journal call. legal.IsLegal settings journal call.request };
 
-    fn act(&mut self, stamp: Stamp, request: BookRequest) -> Result<BookReply, AllocError> {
-        Book::act(self, stamp, request)
+    fn act(&mut self, stamp: Stamp, call: BookCall) -> Result<BookReply, AllocError> {
+        Book::act(self, stamp, call)
     }
 
-    ghost legal_later = { legal_later };
+    ghost legal_later = { λ settings h more call may. legal_later settings h more call.request may };
 
     ghost stamped = { stamped };
 }

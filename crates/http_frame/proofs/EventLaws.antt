@@ -3,15 +3,15 @@ use Rattle.std.proofs.Common.{◌≡◌, ℕ, Bool, true, false, List, [], ◌�
 use Rattle.httparse.specs.Grammar.{RequestHead}
 use Rattle.http_frame.specs.declared.types.FrameFault.{FrameFault}
 use Rattle.http_frame.specs.declared.types.HttpRequest.{HttpRequest}
-use Rattle.http_frame.specs.Heads.{most_body, framing, asks_continue, closes, is_encoded, user_of, HasGoodHead}
+use Rattle.http_frame.specs.Heads.{most_body, framing, asks_continue, closes, is_encoded, user_of, turn_of, HasGoodHead}
 use Rattle.http_frame.specs.Bodies.{ReadsBody, FailsInBody}
 use Rattle.http_frame.specs.Events.{Begins, Fails, Asks, Event, continue, request, Ending, between, within, bad, Ends, IsTold, Spells}
 use Rattle.http_frame.proofs.HeadLaws.{good_unique, good_is_no_fault, head_fault_unique, head_fault_stays, good_stays}
 use Rattle.http_frame.proofs.BodyLaws.{body_unique, body_fault_unique, body_is_no_fault, body_stays, body_fault_stays}
 
-same_request : (r q : HttpRequest) → r.method ≡ q.method → r.target ≡ q.target → r.minor ≡ q.minor → r.user ≡ q.user → r.close ≡ q.close → r.encoded ≡ q.encoded → r.body ≡ q.body → r ≡ q
-same_request r q m t v u c e b =
-    λ i. record { method = m i; target = t i; minor = v i; user = u i; close = c i; encoded = e i; body = b i }
+same_request : (r q : HttpRequest) → r.method ≡ q.method → r.target ≡ q.target → r.minor ≡ q.minor → r.user ≡ q.user → r.close ≡ q.close → r.encoded ≡ q.encoded → r.seen ≡ q.seen → r.body ≡ q.body → r ≡ q
+same_request r q m t v u c e s b =
+    λ i. record { method = m i; target = t i; minor = v i; user = u i; close = c i; encoded = e i; seen = s i; body = b i }
 
 body_at : (h k : RequestHead) (t u b x : List ℕ) → h ≡ k → t ≡ u → ReadsBody (most_body k) (framing k) u b x → ReadsBody (most_body h) (framing h) t b x
 body_at h k t u b x e f y =
@@ -29,7 +29,7 @@ begins_unique bytes r q x y a b =
       same_request r q (a.method ∙ ap (λ (h : RequestHead). h.method) e ∙ sym b.method)
           (a.target ∙ ap (λ (h : RequestHead). h.target) e ∙ sym b.target)
           (a.minor ∙ ap (λ (h : RequestHead). h.minor) e ∙ sym b.minor)
-          (a.user ∙ ap user_of e ∙ sym b.user) (a.close ∙ ap closes e ∙ sym b.close) (a.encoded ∙ ap is_encoded e ∙ sym b.encoded) bodies.0,
+          (a.user ∙ ap user_of e ∙ sym b.user) (a.close ∙ ap closes e ∙ sym b.close) (a.encoded ∙ ap is_encoded e ∙ sym b.encoded) (a.seen ∙ ap turn_of e ∙ sym b.seen) bodies.0,
       bodies.1,
     )
 
@@ -59,6 +59,7 @@ begins_stays bytes more r x a = record {
   user = a.user;
   close = a.close;
   encoded = a.encoded;
+  seen = a.seen;
 }
 
 pub fails_stays : (bytes more : List ℕ) (f : FrameFault) → Fails bytes f → Fails (bytes ++ more) f

@@ -14,7 +14,7 @@ use Rattle.http_frame.specs.declared.types.FrameFault.{FrameFault}
 use Rattle.http_frame.specs.declared.types.FrameFault.TheVariants.{BadHead, HeadTooLong, BodyTooLong}
 use Rattle.http_frame.specs.declared.head.Plan.{Plan}
 use Rattle.http_frame.specs.declared.head.Plan.TheVariants.{Absent, Sized, Chunked}
-use Rattle.http_frame.specs.Heads.{Framing, absent, sized, chunked, badly, framing_by, framing_fault, framing, most_body, fault_of, values_of, user_by, user_of, closes, is_encoded, asks_continue}
+use Rattle.http_frame.specs.Heads.{Framing, absent, sized, chunked, badly, framing_by, framing_fault, framing, most_body, fault_of, values_of, user_by, user_of, turn_by, turn_of, closes, is_encoded, asks_continue}
 use Rattle.http_frame.specs.inner.Facts.{has_value, has_other_value, user_in}
 use Rattle.http_frame.specs.Told.{most_by, plan_of, lacks_host, checked_by, facts_at, has_body, asks_at, IsPlan, IsFactsOf, IsAskingAs}
 
@@ -101,7 +101,7 @@ is_checked h =
 pub is_facts : (block : List ℕ) (spans : RequestSpans) (headers : List HeaderSpan) (h : RequestHead)
     → span_bytes block spans.method ≡ h.method → span_bytes block spans.path ≡ h.target → spans.version ≡ h.minor
     → map (header_bytes block) headers ≡ map name_and_value h.fields → IsFactsOf (facts_at block spans headers) h
-unfolding facts_at user_of closes is_encoded values_of
+unfolding facts_at user_of turn_of closes is_encoded values_of
 is_facts block spans headers h method target minor fields = record {
   method = method;
   target = target;
@@ -111,6 +111,7 @@ is_facts block spans headers h method target minor fields = record {
       ∙ ap (λ (fs : List (List ℕ × List ℕ)). h.minor == 0 || has_option (codes "close") (elements_named (codes "connection") fs)) fields;
   encoded = any_without (codes "content-encoding") (codes "identity") (map (header_bytes block) headers)
       ∙ ap (λ (fs : List (List ℕ × List ℕ)). list_any (λ v. not (eq_ignore_case v (codes "identity"))) (values_named (codes "content-encoding") fs)) fields;
+  seen = ap (λ (fs : List (List ℕ × List ℕ)). turn_by (values_named (codes "x-book-turn") fs)) fields;
 }
 
 -- ---- whether `100 Continue` is asked for

@@ -11,6 +11,7 @@ pub mod SizeLaws
 pub mod OpenLaws
 pub mod Versions
 pub mod HeadFacts
+pub mod TurnFields
 pub mod Digits
 pub mod Seeing
 pub mod TrailerLaws

@@ -6,7 +6,7 @@ use Rattle.httparse.specs.Grammar.{RequestHead, print_request, ReadsRequest, Has
 use Rattle.httparse.proofs.GrammarLemmas.{ReadsSection-append, ReadsRequest-append}
 use Rattle.http_frame.specs.declared.types.FrameFault.{FrameFault}
 use Rattle.http_frame.specs.declared.types.FrameFault.TheVariants.{BadHead, HeadTooLong, BodyTooLong, BadChunk, Version}
-use Rattle.http_frame.specs.Heads.{Framing, absent, sized, chunked, badly, most_head, front, fault_of, framing_fault, framing, most_body, lacks_host, user_of, closes, is_encoded, HasOtherVersion, IsHopeless, HasGoodHead}
+use Rattle.http_frame.specs.Heads.{Framing, absent, sized, chunked, badly, most_head, front, fault_of, framing_fault, framing, most_body, lacks_host, user_of, turn_of, closes, is_encoded, HasOtherVersion, IsHopeless, HasGoodHead}
 use Rattle.http_frame.specs.Bodies.{IsSizeLine, ReadsSize, NeverHasSize, ReadsChunk, ReadsChunks, room_left, ReadsLast, HasBadTrailer, ReadsTrailers, HasLongTrailers, ReadsBody, FailsInChunk, FailsInBody}
 use Rattle.http_frame.specs.Events.{IsRest}
 use Rattle.http_frame.proofs.BodyLaws.{same_cut}
@@ -225,6 +225,6 @@ rest_is_short bytes rest = lt_of_not-le (λ (long : 2 ^ 34 ≤ length bytes).
   where
     whole : (h : RequestHead) (behind b after : List ℕ) → HasGoodHead bytes h behind → ReadsBody (most_body h) (framing h) behind b after → ⊥
     whole h behind b after good x = rest.0
-        (record { method = h.method; target = h.target; minor = h.minor; user = user_of h; close = closes h; encoded = is_encoded h; body = b })
+        (record { method = h.method; target = h.target; minor = h.minor; user = user_of h; close = closes h; encoded = is_encoded h; seen = turn_of h; body = b })
         after
-        (record { head = h; behind = behind; good = good; body = x; method = refl; target = refl; minor = refl; user = refl; close = refl; encoded = refl })
+        (record { head = h; behind = behind; good = good; body = x; method = refl; target = refl; minor = refl; user = refl; close = refl; encoded = refl; seen = refl })

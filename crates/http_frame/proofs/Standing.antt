@@ -136,6 +136,7 @@ begun facts h bytes behind body rest good is reads = record {
   user = is.user;
   close = is.close;
   encoded = is.encoded;
+  seen = is.seen;
 }
 
 abbrev pub Owing : HeadFacts → Awaited → Stage

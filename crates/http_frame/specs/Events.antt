@@ -3,7 +3,7 @@ use Rattle.std.specs.Prelude.{◌≡◌, ℕ, ◌⊎◌, Bool, true, false, List
 use Rattle.httparse.specs.Grammar.{RequestHead, LineEnd, print_blank}
 use Rattle.http_frame.specs.declared.types.FrameFault.{FrameFault}
 use Rattle.http_frame.specs.declared.types.HttpRequest.{HttpRequest}
-use Rattle.http_frame.specs.Heads.{HasGoodHead, FailsInHead, framing, most_body, asks_continue, closes, is_encoded, user_of, absent}
+use Rattle.http_frame.specs.Heads.{HasGoodHead, FailsInHead, framing, most_body, asks_continue, closes, is_encoded, user_of, turn_of, absent}
 use Rattle.http_frame.specs.Bodies.{ReadsBody, FailsInBody}
 
 -- the bytes begin with the request, and the rest follows
@@ -18,6 +18,7 @@ pub record Begins (bytes : List ℕ) (request : HttpRequest) (rest : List ℕ) :
   pub user : request.user ≡ user_of head
   pub close : request.close ≡ closes head
   pub encoded : request.encoded ≡ is_encoded head
+  pub seen : request.seen ≡ turn_of head
 
 -- the bytes begin with a fault, in a head or in the body after a good one
 abbrev pub Fails : List ℕ → FrameFault → Type 0

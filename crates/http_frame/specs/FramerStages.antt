@@ -37,6 +37,7 @@ request_by facts body = record {
   user = facts.user;
   close = facts.close;
   encoded = facts.encoded;
+  seen = facts.seen;
   body = body;
 }
 

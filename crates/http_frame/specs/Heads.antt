@@ -9,9 +9,11 @@ use Rattle.httparse.specs.Spans.{name_and_value}
 use Rattle.http1.specs.Fields.{values_named, elements_named, has_option}
 use Rattle.http1.specs.Text.{eq_ignore_case}
 use Rattle.bim_model.specs.declared.limits.TheConstants.{MOST_UPLOAD}
-use Rattle.http_frame.specs.declared.limits.TheConstants.{MOST_HEAD, MOST_FIELDS, MOST_BODY, MOST_USER}
+use Rattle.http_frame.specs.declared.limits.TheConstants.{MOST_HEAD, MOST_FIELDS, MOST_BODY, MOST_USER, MOST_TURN_DIGITS}
 use Rattle.http_frame.specs.declared.types.FrameFault.{FrameFault}
 use Rattle.http_frame.specs.declared.types.FrameFault.TheVariants.{BadHead, HeadTooLong, BadLength, BodyTooLong, Version}
+use Rattle.http_frame.specs.declared.types.TurnField.{TurnField}
+use Rattle.http_frame.specs.declared.types.TurnField.TheVariants as turn
 
 -- ---- the first line
 
@@ -148,6 +150,20 @@ user_by (user ∷ other ∷ users) = codes "anonymous"
 -- the user that a head names
 unfoldable pub user_of : RequestHead → List ℕ
 user_of head = user_by (values_of (codes "x-user") head)
+
+-- 1 to 15 digits, as turns are written
+abbrev pub is_turn : List ℕ → Bool
+is_turn value = are_digits value && nat_le (length value) MOST_TURN_DIGITS
+
+-- the turn that the values of the field X-Book-Turn give: there is one, and it is 1 to 15 digits
+abbrev pub turn_by : List (List ℕ) → TurnField
+turn_by [] = turn.Absent
+turn_by (value ∷ []) = if is_turn value then turn.Given (digits_value 10 value) else turn.Bad
+turn_by (value ∷ other ∷ values) = turn.Bad
+
+-- the turn that a head gives
+unfoldable pub turn_of : RequestHead → TurnField
+turn_of head = turn_by (values_of (codes "x-book-turn") head)
 
 -- ---- what the bytes of a request begin with
 

@@ -13,7 +13,7 @@ use Rattle.http_frame.specs.declared.types.FrameFault.TheVariants.{BadHead, Head
 use Rattle.http_frame.specs.declared.head.HeadFacts.{HeadFacts}
 use Rattle.http_frame.specs.declared.head.Plan.{Plan}
 use Rattle.http_frame.specs.declared.head.Plan.TheVariants.{Absent, Sized, Chunked}
-use Rattle.http_frame.specs.Heads.{starts_with, Framing, absent, sized, chunked, badly, framing_by, framing, user_by, user_of, closes, is_encoded, asks_continue}
+use Rattle.http_frame.specs.Heads.{starts_with, Framing, absent, sized, chunked, badly, framing_by, framing, user_by, user_of, turn_by, turn_of, closes, is_encoded, asks_continue}
 use Rattle.http_frame.specs.inner.Facts.{has_value, has_other_value, values_at}
 
 -- the most bytes of a body, by method and target
@@ -52,6 +52,7 @@ facts_at block spans headers = record {
       || has_option (codes "close") (elements_named (codes "connection") (map (header_bytes block) headers));
   encoded = list_any (has_other_value (codes "content-encoding") (codes "identity"))
       (map (header_bytes block) headers);
+  seen = turn_by (values_at (codes "x-book-turn") block headers);
 }
 
 -- there is a body, maybe of no bytes
@@ -81,6 +82,7 @@ pub record IsFactsOf (facts : HeadFacts) (head : RequestHead) : Type 0 where
   pub user : facts.user ≡ user_of head
   pub close : facts.close ≡ closes head
   pub encoded : facts.encoded ≡ is_encoded head
+  pub seen : facts.seen ≡ turn_of head
 
 -- the head asks for `100 Continue`, and has a body
 abbrev pub IsAsking : RequestHead → Type 0

@@ -40,6 +40,7 @@ fn request_of(facts: HeadFacts, body: Items<u8>) -> HttpRequest
         user: facts.user,
         close: facts.close,
         encoded: facts.encoded,
+        seen: facts.seen,
         body,
     }
 }

@@ -1,8 +1,7 @@
 //! What a whole head says.
-ghost use Rattle.std.specs.Prelude.{◌≡◌, ◌≤◌, ◌==◌, ◌&&◌, ◌||◌, ℕ, true, IfOk, Some, None, length, map, take, All, codes, bytes_eq, nat_lt, if◌then◌else◌};
+ghost use Rattle.std.specs.Prelude.{◌≡◌, ◌≤◌, ◌==◌, ◌&&◌, ◌||◌, ℕ, IfOk, length, map, take, All, codes, bytes_eq, if◌then◌else◌};
 ghost use Rattle.bim_model.specs.declared.limits.TheConstants.{MOST_UPLOAD};
-ghost use Rattle.std.specs.List.{list_all, list_any};
-ghost use Rattle.std.specs.Char.{is_ascii_digit};
+ghost use Rattle.std.specs.List.{list_any};
 ghost use Rattle.std.specs.Str.Parse.{digits_value};
 ghost use Rattle.httparse.specs.Spans.{IsHeaderWithin, IsWithin, header_bytes, span_bytes};
 ghost use Rattle.http1.specs.Text.{eq_ignore_case};
@@ -11,11 +10,13 @@ ghost use Rattle.http_frame.specs.Heads.{starts_with, are_digits, sized, chunked
 ghost use Rattle.http_frame.specs.inner.Facts.{has_value, has_other_value, values_at};
 ghost use Rattle.http_frame.specs.Told.{most_by, plan_of, lacks_host, checked_by, facts_at, asks_at, has_body};
 
+use crate::digit_runs::{are_digits, number_up_to};
 use crate::facts::{
     Only, any_other_value, any_value, count_named, lists_close, only_named, user_of,
 };
 use crate::limits::{MOST_BODY, MOST_FIELDS};
-use crate::types::FrameFault;
+use crate::turn_field::turn_of;
+use crate::types::{FrameFault, TurnField};
 use bim_model::{Bytes, MOST_UPLOAD, Text};
 use httparse::spans::{HeaderSpan, RequestSpans};
 use std::alloc::{AllocError, Global};
@@ -29,6 +30,7 @@ pub struct HeadFacts {
     pub user: Text,
     pub close: bool,
     pub encoded: bool,
+    pub seen: TurnField,
 }
 
 /// How the body comes.
@@ -62,29 +64,6 @@ fn most_body(method: &[u8], target: &[u8]) -> usize
     } else {
         MOST_BODY
     }
-}
-
-fn are_digits(text: &[u8]) -> bool
-    ensures { result ≡ list_all is_ascii_digit text.now }
-{
-    text.iter().all(|b| b.is_ascii_digit())
-}
-
-// The number that the digits write, where it is not above the most.
-fn number_up_to(text: &[u8], most: usize) -> Option<usize>
-    requires digits { list_all is_ascii_digit text.now ≡ true }
-    requires most { most ≤ MOST_UPLOAD }
-    ensures { result ≡ (if nat_lt most (digits_value 10 text.now) then None
-        else Some (digits_value 10 text.now)) }
-{
-    let mut value = 0;
-    for b in text {
-        value = value * 10 + (*b - b'0') as usize;
-        if value > most {
-            return None;
-        }
-    }
-    Some(value)
 }
 
 // From the lone value of Content-Length.
@@ -198,6 +177,7 @@ pub fn facts_of(
         user: user_of(alloc, block, headers)?,
         close: closes(spans.version, block, headers),
         encoded: any_other_value(b"content-encoding", b"identity", block, headers),
+        seen: turn_of(block, headers),
     })
 }
 

@@ -11,3 +11,9 @@ pub const MOST_BODY: usize = 4_194_304;
 
 /// The most bytes of a user's name.
 pub const MOST_USER: usize = 128;
+
+/// The most digits of a turn that a request gives.
+pub const MOST_TURN_DIGITS: usize = 15;
+
+/// The greatest turn that so many digits write.
+pub const MOST_TURN: usize = 999_999_999_999_999;

@@ -10,7 +10,18 @@ pub struct HttpRequest {
     pub user: Text,
     pub close: bool,
     pub encoded: bool,
+    pub seen: TurnField,
     pub body: Items<u8>,
+}
+
+/// What the field `X-Book-Turn` of a request says: the reply is to know all that was accepted up to that turn.
+#[derive(Clone, Copy, Debug, PartialEq, Eq)]
+pub enum TurnField {
+    Absent,
+    /// It stands once, and its 1 to 15 digits write this turn.
+    Given(u64),
+    /// It stands several times, or its value is anything else.
+    Bad,
 }
 
 /// H1 to H6.

@@ -3,3 +3,5 @@
 
 #[cfg(test)]
 mod frame_tests;
+#[cfg(test)]
+mod turn_field_tests;

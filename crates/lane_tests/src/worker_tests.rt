@@ -8,7 +8,7 @@ use bim_model::{
     Rules, Shared, StoreyTest, Text, Triangle, id_of,
 };
 use bim_net::{FreeGate, Gate};
-use book_history::{BookRequest, Limits, ReplyBody, Wanted};
+use book_history::{BookCall, BookRequest, Limits, ReplyBody, Wanted};
 use book_turn::pass::Pass;
 use book_turn::turn::Turn;
 use bucket_check::Room;
@@ -120,7 +120,11 @@ fn ask<R: Wait>(
     requires free { IsFree request }
     ensures { BelongsTo turn.now pass.new }
 {
-    turn.call(rt, pass, request)
+    let call = BookCall {
+        seen: None,
+        request,
+    };
+    turn.call(rt, pass, call)
         .ok()
         .map(|receipt| receipt.reply.body)
 }

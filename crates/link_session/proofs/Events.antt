@@ -18,13 +18,14 @@ use Rattle.book_history.specs.declared.replies.ReplyBody.TheVariants as reply
 use Rattle.book_history.specs.declared.requests.Wanted.{Wanted}
 use Rattle.book_history.specs.declared.replies.BookReply.{BookReply}
 use Rattle.book_history.specs.declared.requests.BookRequest.{BookRequest}
+use Rattle.book_history.specs.declared.requests.BookCall.{BookCall}
 use Rattle.book_history.specs.declared.requests.BookRequest.TheVariants.{ReadVersion, ReadClashes, TakeWork}
 use Rattle.book_history.specs.Orders.{OrderValue}
 use Rattle.book_history.specs.Versions.{VersionState, version_at}
 use Rattle.book_history.specs.Projects.{ProjectState, newest, with_change}
 use Rattle.book_history.specs.History.{state_of, at_turn, of_turn}
 use Rattle.book_history.specs.Refusals.{project_of, wanted_in, not_yet, dropped, pending}
-use Rattle.book_history.specs.Requests.{Outcome, Refusal, Answer, Accepted, unless, found, topic_told, comment_told, order_for, all_orders, version_read, clashes_read, outcome_of, reply_to, body_of, entry_by, reply_of, added_by}
+use Rattle.book_history.specs.Requests.{Outcome, Refusal, Answer, Accepted, refused_or, ahead, outcome_in, unless, found, topic_told, comment_told, order_for, all_orders, version_read, clashes_read, outcome_of, reply_to, body_of, entry_by, reply_of, added_by}
 use Rattle.book_history.specs.Runs.{Step}
 use Rattle.book_history.proofs.Histories.{AreOf, AreAbove, added_of, before_all, at_turn-new, of_turn-new}
 use Rattle.bcf_http.specs.declared.answers.Answer.TheVariants as answer
@@ -135,10 +136,16 @@ nothing_idle : (settings : Settings) (h : List Entry) (call : BookRequest) (asks
 nothing_idle settings h call true asks nothing = refused_idle h (outcome_of settings h call) nothing
 nothing_idle settings h call false asks nothing = reads_idle settings h call asks
 
-nothing_added : (settings : Settings) (h : List Entry) (stamp : Stamp) (call : BookRequest)
-    → IsTrue (changes_nothing (asks_change call) (body_of h (outcome_of settings h call))) → added_by settings h stamp call ≡ []
+-- .. and one that is refused for the turn that it gives
+refused_first : (settings : Settings) (h : List Entry) (request : BookRequest) (fault : Option BookFault)
+    → IsTrue (changes_nothing (asks_change request) (body_of h (refused_or fault (outcome_of settings h request)))) → IsIdle (refused_or fault (outcome_of settings h request))
+refused_first settings h request None nothing = nothing_idle settings h request (asks_change request) refl nothing
+refused_first settings h request (Some fault) nothing = tt
+
+nothing_added : (settings : Settings) (h : List Entry) (stamp : Stamp) (call : BookCall)
+    → IsTrue (changes_nothing (asks_change call.request) (body_of h (outcome_in settings h stamp.turn call))) → added_by settings h stamp call ≡ []
 nothing_added settings h stamp call nothing =
-    idle_added stamp (outcome_of settings h call) (nothing_idle settings h call (asks_change call) refl nothing)
+    idle_added stamp (outcome_in settings h stamp.turn call) (refused_first settings h call.request (ahead stamp.turn call.seen) nothing)
 
 -- ---- what was learnt
 
@@ -181,7 +188,7 @@ last_of k v w a old server so =
 -- ---- a turn
 
 -- a turn is taken by a call, where the history has what the call adds there
-taken_in : (s : Standing) (settings : Settings) (w w' : CallerSeen) (call : BookRequest) (turn : ℕ) (others : List Entry) → Turned turn others (added_by settings (w.seen ++ others) (stamp_in turn w) call) w w'
+taken_in : (s : Standing) (settings : Settings) (w w' : CallerSeen) (call : BookCall) (turn : ℕ) (others : List Entry) → Turned turn others (added_by settings (w.seen ++ others) (stamp_in turn w) call) w w'
     → IsTaken (record s { settings = settings; history = w'.seen; top = w'.last }) (step_in turn w call)
 taken_in s settings w w' call turn others t =
     let h : List Entry = w.seen ++ others in
@@ -194,7 +201,7 @@ taken_in s settings w w' call turn others t =
     }
 
 -- a turn is taken by the call that a request means
-pub turn_in : (k : Service) (v w w' : CallerSeen) (events : List Event) (steps : List Step) (printed : Printed) (m : ℕ) (r : HttpRequest) (call : BookRequest) (turn : ℕ) (others : List Entry)
+pub turn_in : (k : Service) (v w w' : CallerSeen) (events : List Event) (steps : List Step) (printed : Printed) (m : ℕ) (r : HttpRequest) (call : BookCall) (turn : ℕ) (others : List Entry)
     → Means m r call → Turned turn others (added_by k.settings (w.seen ++ others) (stamp_in turn w) call) w w' → last_turn v.last steps ≤ w.last
     → TakesTurn (asking (stands k v w' events steps printed) m r) (step_in turn w call ∷ [])
 turn_in k v w w' events steps printed m r call turn others means t le =
@@ -208,14 +215,14 @@ turn_in k v w w' events steps printed m r call turn others means t le =
     }
 
 -- what a call of the book leads to: an answer, and what is printed and on the shelf then
-pub record CallAnswers (k : Service) (v w w' : CallerSeen) (events : List Event) (steps : List Step) (printed : Printed) (m : ℕ) (r : HttpRequest) (call : BookRequest) (turn : ℕ)
+pub record CallAnswers (k : Service) (v w w' : CallerSeen) (events : List Event) (steps : List Step) (printed : Printed) (m : ℕ) (r : HttpRequest) (call : BookCall) (turn : ℕ)
     (bytes : List ℕ) (later : Notes) : Type 0 where
   pub last : Printed
   pub few : last.turn ≤ w'.last
   pub answers : Answers (asking (stands k v w' events steps printed) m r) bytes (step_in turn w call ∷ []) last
   pub keeps : Keeps k.settings w'.seen later last
 
-module _ (k : Service) (v w w' : CallerSeen) (events : List Event) (steps : List Step) (printed : Printed) (m : ℕ) (r : HttpRequest) (call : BookRequest) (receipt : BookReceipt)
+module _ (k : Service) (v w w' : CallerSeen) (events : List Event) (steps : List Step) (printed : Printed) (m : ℕ) (r : HttpRequest) (call : BookCall) (receipt : BookReceipt)
     (notes : Notes) (means : Means m r call) (asks_none : ¬ (AsksKept notes call)) (c : TakesCall k.settings call receipt.turn receipt.reply w w') (le : last_turn v.last steps ≤ w.last)
     (few : printed.turn ≤ w.last) (keeps : Keeps k.settings w.seen notes printed) where
   -- the shelf before, at what was seen in the turn
@@ -236,7 +243,7 @@ module _ (k : Service) (v w w' : CallerSeen) (events : List Event) (steps : List
       c.replied ∙ ap (λ es. reply_of k.settings es (stamp_in receipt.turn w) call) (sym at)
 
   -- the answer to a call in a turn
-  pub called_answers : (bytes : List ℕ) (later : Notes) → AnswersCall (Ok receipt) (waiting_for r (0 + requests events + 1) (asks_change call) (project_read call)) notes bytes later
+  pub called_answers : (bytes : List ℕ) (later : Notes) → AnswersCall (Ok receipt) (waiting_for r (0 + requests events + 1) (asks_change call.request) (project_read call.request)) notes bytes later
       → CallAnswers k v w w' events steps printed m r call receipt.turn bytes later
   unfolding turn_in
   called_answers bytes later (inl booked) =
@@ -265,8 +272,8 @@ module _ (k : Service) (v w w' : CallerSeen) (events : List Event) (steps : List
       let own : AreOf turn added = added_of k.settings h (stamp_in turn w) call in
       let above : w.last < turn = c.takes.above in
       let last : w'.last ≡ turn = c.takes.last in
-      let nothing : IsTrue (changes_nothing (asks_change call) (body_of h (outcome_of k.settings h call))) =
-      subst (λ (b : BookReply). IsTrue (changes_nothing (asks_change call) b.body)) c.replied quiet.0 in
+      let nothing : IsTrue (changes_nothing (asks_change call.request) (body_of h (outcome_in k.settings h turn call))) =
+      subst (λ (b : BookReply). IsTrue (changes_nothing (asks_change call.request) b.body)) c.replied quiet.0 in
       record {
         last = printed;
         few = (let within : printed.turn ≤ w'.last = omega (arith, few, above, last) in within);

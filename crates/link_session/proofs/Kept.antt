@@ -15,16 +15,19 @@ use Rattle.book_turn.proofs.Prefixes.{before_append, before_later}
 use Rattle.book_history.specs.declared.limits.Settings.{Settings}
 use Rattle.book_history.specs.declared.changes.Entry.{Entry}
 use Rattle.book_history.specs.declared.requests.BookRequest.{BookRequest}
+use Rattle.book_history.specs.declared.requests.BookCall.{BookCall}
 use Rattle.book_history.specs.declared.requests.BookRequest.TheVariants.{ReadClashes}
 use Rattle.book_history.specs.declared.requests.Wanted.{Wanted}
 use Rattle.book_history.specs.declared.requests.Wanted.TheVariants.{Number}
+use Rattle.book_history.specs.declared.book_fault.BookFault.{BookFault}
 use Rattle.book_history.specs.declared.replies.ReplyBody.TheVariants as reply
 use Rattle.book_history.specs.declared.replies.BookReply.{BookReply}
 use Rattle.book_history.specs.History.{state_of, newest_of, at_turn, horizon_of, project_numbers, IsBefore}
 use Rattle.book_history.specs.Refusals.{project_of}
-use Rattle.book_history.specs.Requests.{Outcome, Answer, in_project, clashes_read, outcome_of, body_of, entry_by, reply_of, added_by}
+use Rattle.book_history.specs.Requests.{Outcome, Answer, in_project, clashes_read, refused_or, ahead, outcome_of, outcome_in, body_of, entry_by, reply_of, added_by}
 use Rattle.book_history.specs.Runs.{Step}
 use Rattle.book_history.proofs.Histories.{AreAbove, before_all, at_turn-new}
+use Rattle.book_history.proofs.Ahead.{not_ahead}
 use Rattle.book_passes.specs.Lessons.{CallerSeen, AllOf, stamp_in, turn_of}
 use Rattle.book_passes.specs.LessonLaws.{TakesCall}
 use Rattle.bcf_http.specs.declared.asked.RequestFault.{RequestFault}
@@ -35,9 +38,9 @@ use Rattle.bcf_http.specs.ReplyKinds.{kind_of}
 use Rattle.bcf_http.specs.Asked.{asked_by}
 use Rattle.bcf_http.specs.Answers.{IsResponse}
 use Rattle.bim_session.specs.declared.notes.Notes.{Notes}
-use Rattle.bim_session.specs.ShelfNotes.{project_read, set_told, put_set, AsksKept, Noted}
+use Rattle.bim_session.specs.ShelfNotes.{project_read, set_told, put_set, IsUpTo, AsksShelf, AsksKept, Noted}
 use Rattle.bim_session.specs.Works.{Standing, Printed}
-use Rattle.bim_session.specs.Session.{Means, MeansCall, IsKept, IsShelved, asking, up_to_printed, with_set, printed_after, closes_after}
+use Rattle.bim_session.specs.Session.{Means, MeansRequest, kept_call, IsKept, IsShelved, asking, up_to_printed, with_set, printed_after, closes_after}
 use Rattle.bim_session.specs.Talking.{AnswersKept, KeepsNone, waiting_for}
 use Rattle.bim_session.proofs.Sessions.{up_to_grown}
 use Rattle.book_history.proofs.Staying.{Settled, settled_later, newest_later, read_settled}
@@ -149,16 +152,23 @@ outcome_settled settings h id p v first count content named high settled live =
     ∙ read_settled h p v first count content settled live
 
 -- what the book replies to a call for the clashes of a version that is checked
-reply_settled : (settings : Settings) (h : List Entry) (stamp : Stamp) (id p v first count : ℕ) (content : Version) → project_of 8 id ≡ Some p → p ≤ settings.projects
-    → Settled (state_of p h) v content → newest_of p h < v + 16
+reply_settled : (settings : Settings) (h : List Entry) (stamp : Stamp) (seen : Option ℕ) (id p v first count : ℕ) (content : Version) → ahead stamp.turn seen ≡ None
+    → project_of 8 id ≡ Some p → p ≤ settings.projects → Settled (state_of p h) v content → newest_of p h < v + 16
     → (let told : BookReply = record { body = reply.Clashes v content first count; horizon = horizon_of settings.projects h } in
-    reply_of settings h stamp (ReadClashes id (Number v) first count) ≡ told)
-reply_settled settings h stamp id p v first count content named high settled live =
-    let is = outcome_settled settings h id p v first count content named high settled live in
+    reply_of settings h stamp (kept_call seen id v first count) ≡ told)
+reply_settled settings h stamp seen id p v first count content below named high settled live =
+    let asked : Outcome = outcome_of settings h (ReadClashes id (Number v) first count) in
+    let is : refused_or (ahead stamp.turn seen) asked ≡ Answer (reply.Clashes v content first count) =
+    ap (λ (o : Option BookFault). refused_or o asked) below ∙ outcome_settled settings h id p v first count content named high settled live in
     let by : Outcome → BookReply = λ (o : Outcome). record { body = body_of h o; horizon = horizon_of settings.projects (h ++ listed (entry_by stamp o)) } in
     let same : by (Answer (reply.Clashes v content first count)) ≡ record { body = reply.Clashes v content first count; horizon = horizon_of settings.projects h } =
     λ i. record { body = reply.Clashes v content first count; horizon = horizon_of settings.projects (append-nil h i) } in
     ap by is ∙ same
+
+-- a turn up to the printed one isn't ahead in the turn after it
+up_to_below : (turn printed : ℕ) (seen : Option ℕ) → turn ≡ printed + 1 → IsUpTo printed seen → ahead turn seen ≡ None
+up_to_below turn printed None is le = refl
+up_to_below turn printed (Some given) is le = let low : given ≤ printed = le in not_ahead turn given (omega (arith, is, low))
 
 -- the answer to a request for clashes that are kept
 pub shelved : (s : Standing) (m : ℕ) (r : HttpRequest) (notes : Notes) (bytes : List ℕ) → Keeps s.settings s.history notes s.printed
@@ -166,32 +176,36 @@ pub shelved : (s : Standing) (m : ℕ) (r : HttpRequest) (notes : Notes) (bytes 
 shelved s m r notes bytes keeps x = of_kind keeps.kept
   where
     of_kind : KeepsNothing notes s.printed.sets ⊎ KeepsSome s.settings s.history notes s.printed → IsShelved (asking s m r) bytes [] s.printed
-    of_kind (inl nothing) = let asks = x.is_kept.0 in absurd (none_is (set_of notes.shelf asks.project asks.version) asks.content (nothing.0 asks.project asks.version) asks.kept)
+    of_kind (inl nothing) = let asks = x.is_kept.0.0 in absurd (none_is (set_of notes.shelf asks.project asks.version) asks.content (nothing.0 asks.project asks.version) asks.kept)
     of_kind (inr some) =
-        let asks = x.is_kept.0 in
+        let asks = x.is_kept.0.0 in
+        let seen : Option ℕ = x.call.seen in
+        let up_to : IsUpTo s.printed.turn seen = subst (λ (t : ℕ). IsUpTo t seen) keeps.turn_is x.is_kept.1 in
         let on = some.holds.each asks.project asks.version asks.content asks.kept in
         let at : up_to_printed s ≡ some.front = at_front s.printed.turn s.history some.front some.first in
         let kept : IsKept (asking s m r) = record {
+          seen = seen;
           id = asks.id;
           project = asks.project;
           version = asks.version;
           first = asks.first;
           count = asks.count;
-          means = subst (λ (c : BookRequest). Means m r c) asks.call_is x.means;
+          means = (subst (λ (q : BookRequest). MeansRequest (asked_by m r) q) asks.request_is x.means.0, x.means.1);
+          up_to = up_to;
           named = asks.named;
           answered = on.answered;
           live = subst (λ (es : List Entry). newest_of asks.project es < asks.version + 16) (sym at) on.live;
         } in
-        let same : (stamp : Stamp) → x.kept ≡ reply_of s.settings (up_to_printed s) stamp (ReadClashes asks.id (Number asks.version) asks.first asks.count) = λ (stamp : Stamp).
-        x.is_kept.1 ∙ ap (λ (z : Horizon). (let b : BookReply = record { body = reply.Clashes asks.version asks.content asks.first asks.count; horizon = z } in b)) some.holds.horizon
-        ∙ sym (reply_settled s.settings some.front stamp asks.id asks.project asks.version asks.first asks.count asks.content asks.named on.high on.settled on.live)
-        ∙ ap (λ (es : List Entry). reply_of s.settings es stamp (ReadClashes asks.id (Number asks.version) asks.first asks.count)) (sym at) in
+        let same : (stamp : Stamp) → stamp.turn ≡ s.printed.turn + 1 → x.kept ≡ reply_of s.settings (up_to_printed s) stamp (kept_call seen asks.id asks.version asks.first asks.count) = λ (stamp : Stamp) next.
+        x.is_kept.0.1 ∙ ap (λ (z : Horizon). (let b : BookReply = record { body = reply.Clashes asks.version asks.content asks.first asks.count; horizon = z } in b)) some.holds.horizon
+        ∙ sym (reply_settled s.settings some.front stamp seen asks.id asks.project asks.version asks.first asks.count asks.content (up_to_below stamp.turn s.printed.turn seen next up_to) asks.named on.high on.settled on.live)
+        ∙ ap (λ (es : List Entry). reply_of s.settings es stamp (kept_call seen asks.id asks.version asks.first asks.count)) (sym at) in
         record {
           kept = kept;
-          response = λ (stamp : Stamp).
-              subst (λ (t : ℕ). IsResponse (answer.Book (reply_of s.settings (up_to_printed s) stamp (ReadClashes asks.id (Number asks.version) asks.first asks.count))) (kind_of r) (Some t)
+          response = λ (stamp : Stamp) next.
+              subst (λ (t : ℕ). IsResponse (answer.Book (reply_of s.settings (up_to_printed s) stamp (kept_call seen asks.id asks.version asks.first asks.count))) (kind_of r) (Some t)
               (closes_after r (s.served + 1)) bytes) keeps.turn_is
-              (subst (λ (b : BookReply). IsResponse (answer.Book b) (kind_of r) (Some notes.turn) (closes_after r (s.served + 1)) bytes) (same stamp) x.response);
+              (subst (λ (b : BookReply). IsResponse (answer.Book b) (kind_of r) (Some notes.turn) (closes_after r (s.served + 1)) bytes) (same stamp next) x.response);
           none = refl;
           printed_is = refl;
         }
@@ -201,15 +215,15 @@ shelved s m r notes bytes keeps x = of_kind keeps.kept
 none_in : (x : ℕ × ℕ) → Contains [] x → ⊥
 none_in x c = let lt = c.1 in absurd (omega (arith, lt))
 
--- what is asked for means one call
-means_one : (asked : Result Action RequestFault) (id v first count : ℕ) (call : BookRequest) → MeansCall asked (ReadClashes id (Number v) first count) → MeansCall asked call
-    → call ≡ ReadClashes id (Number v) first count
-means_one (Ok (Call one)) id v first count call a b = sym b ∙ a
-means_one (Ok (Build project name mode body)) id v first count call a b = let e = a.2 in cc
-means_one (Err fault) id v first count call a b = absurd a
+-- what is asked for means one request
+means_one : (asked : Result Action RequestFault) (id v first count : ℕ) (request : BookRequest) → MeansRequest asked (ReadClashes id (Number v) first count) → MeansRequest asked request
+    → request ≡ ReadClashes id (Number v) first count
+means_one (Ok (Call one)) id v first count request a b = sym b ∙ a
+means_one (Ok (Build project name mode body)) id v first count request a b = let e = a.2 in cc
+means_one (Err fault) id v first count request a b = absurd a
 
 -- the request of a call that is made asks for no clashes that are kept
-pub unkept : (s : Standing) (m : ℕ) (r : HttpRequest) (notes : Notes) (call : BookRequest) → Keeps s.settings s.history notes s.printed → Means m r call → ¬ (AsksKept notes call)
+pub unkept : (s : Standing) (m : ℕ) (r : HttpRequest) (notes : Notes) (call : BookCall) → Keeps s.settings s.history notes s.printed → Means m r call → ¬ (AsksKept notes call)
     → ¬ (IsKept (asking s m r))
 unkept s m r notes call keeps means asks_none = λ k. of_kind k keeps.kept
   where
@@ -218,17 +232,19 @@ unkept s m r notes call keeps means asks_none = λ k. of_kind k keeps.kept
     of_kind k (inr some) =
         let at : up_to_printed s ≡ some.front = at_front s.printed.turn s.history some.front some.first in
         let x = some.holds.all k.project k.version k.answered (subst (λ (es : List Entry). newest_of k.project es < k.version + 16) at k.live) in
-        asks_none (record {
+        let shelf : AsksShelf notes call.request = record {
           id = k.id;
           project = k.project;
           version = k.version;
           first = k.first;
           count = k.count;
           content = x.0;
-          call_is = means_one (asked_by m r) k.id k.version k.first k.count call k.means means;
+          request_is = means_one (asked_by m r) k.id k.version k.first k.count call.request k.means.0 means.0;
           named = k.named;
           kept = x.1;
-        })
+        } in
+        let seen : k.seen ≡ call.seen = k.means.1 ∙ sym means.1 in
+        asks_none (shelf, subst (λ (t : ℕ). IsUpTo t call.seen) (sym keeps.turn_is) (subst (λ (o : Option ℕ). IsUpTo s.printed.turn o) seen k.up_to))
 
 -- ---- a reply that is noted
 
@@ -340,11 +356,16 @@ told_in settings h id wanted first count p v content (Some n) named is told =
     subst (λ (k : ℕ). IsTold settings h k v content) same
     (record { low = high.0; few = (let le : p ≤ 8 = low.1 in omega (arith, le, same)); high = high.1; settled = x.0; live = x.1 })
 
-told_of : (settings : Settings) (h : List Entry) (call : BookRequest) (p v : ℕ) (content : Version) → project_read call ≡ Some p
-    → set_told (body_of h (outcome_of settings h call)) ≡ Some (v, content) → IsTold settings h p v content
-told_of settings h (ReadClashes id wanted first count) p v content named told =
+told_unless : (settings : Settings) (h : List Entry) (fault : Option BookFault) (request : BookRequest) (p v : ℕ) (content : Version) → project_read request ≡ Some p
+    → set_told (body_of h (refused_or fault (outcome_of settings h request))) ≡ Some (v, content) → IsTold settings h p v content
+told_unless settings h (Some fault) request p v content named told = cc
+told_unless settings h None (ReadClashes id wanted first count) p v content named told =
     told_in settings h id wanted first count p v content (project_of settings.projects id) named refl told
-told_of settings h other p v content named told = cc
+told_unless settings h None other p v content named told = cc
+
+told_of : (settings : Settings) (h : List Entry) (turn : ℕ) (call : BookCall) (p v : ℕ) (content : Version) → project_read call.request ≡ Some p
+    → set_told (body_of h (outcome_in settings h turn call)) ≡ Some (v, content) → IsTold settings h p v content
+told_of settings h turn call p v content named told = told_unless settings h (ahead turn call.seen) call.request p v content named told
 
 -- ---- the shelf after a reply
 
@@ -360,7 +381,7 @@ on_later settings front more sets later p v content on answered live = record {
   settled = settled_later p front more v content on.settled;
 }
 
-module _ (settings : Settings) (call : BookRequest) (stamp : Stamp) (seen others : List Entry) (notes now : Notes) (printed : Printed)
+module _ (settings : Settings) (call : BookCall) (stamp : Stamp) (seen others : List Entry) (notes now : Notes) (printed : Printed)
     (keeps : Keeps settings seen notes printed) where
   -- the entries below the turn, those that the call adds, and what it is told
   abbrev before : List Entry
@@ -373,9 +394,9 @@ module _ (settings : Settings) (call : BookRequest) (stamp : Stamp) (seen others
   told = reply_of settings before stamp call
 
   abbrev sets : List (ℕ × ℕ)
-  sets = with_set (project_read call) (set_told told.body) printed.sets
+  sets = with_set (project_read call.request) (set_told told.body) printed.sets
 
-  module _ (noted : Noted stamp.turn (project_read call) told notes now) where
+  module _ (noted : Noted stamp.turn (project_read call.request) told notes now) where
     -- from the shelf before
     old_on : (p v : ℕ) (content : Version) → is_live told.horizon.newest p v ≡ true → set_of notes.shelf p v ≡ Some content → OnShelf settings (before ++ added) sets p v content
     old_on p v content live is = of_kind keeps.kept
@@ -389,14 +410,14 @@ module _ (settings : Settings) (call : BookRequest) (stamp : Stamp) (seen others
             append_assoc seen others added ∙ ap (λ (es : List Entry). es ++ (others ++ added)) some.first.seen_is ∙ append_assoc some.front some.first.late (others ++ added) in
             let lives : newest_of p (before ++ added) < v + 16 = live_is settings.projects p v (before ++ added) on.low on.few on.high live in
             subst (λ (es : List Entry). OnShelf settings es sets p v content) (sym whole)
-            (on_later settings some.front more printed.sets sets p v content on (with_old (project_read call) (set_told told.body) printed.sets (p, v) on.answered)
+            (on_later settings some.front more printed.sets sets p v content on (with_old (project_read call.request) (set_told told.body) printed.sets (p, v) on.answered)
             (subst (λ (es : List Entry). newest_of p es < v + 16) whole lives))
 
     -- from the reply
-    new_on : (p v : ℕ) (content : Version) → is_live told.horizon.newest p v ≡ true → project_read call ≡ Some p → set_told told.body ≡ Some (v, content)
+    new_on : (p v : ℕ) (content : Version) → is_live told.horizon.newest p v ≡ true → project_read call.request ≡ Some p → set_told told.body ≡ Some (v, content)
         → OnShelf settings (before ++ added) sets p v content
     new_on p v content live read is =
-        let x = told_of settings before call p v content read is in
+        let x = told_of settings before stamp.turn call p v content read is in
         record {
           answered = subst (λ (o : Option ℕ). Contains (with_set o (set_told told.body) printed.sets) (p, v)) (sym read)
               (subst (λ (o : Option (ℕ × Version)). Contains (with_set (Some p) o printed.sets) (p, v)) (sym is) (with_new p v content printed.sets));
@@ -409,22 +430,22 @@ module _ (settings : Settings) (call : BookRequest) (stamp : Stamp) (seen others
 
     each_now : (p v : ℕ) (content : Version) → set_of now.shelf p v ≡ Some content → OnShelf settings (before ++ added) sets p v content
     each_now p v content is =
-        let put = kept_some (is_live told.horizon.newest p v) (put_set (project_read call) (set_told told.body) (set_of notes.shelf) p v) content (sym (noted.sets_are p v) ∙ is) in
-        of_two put.0 (put_cases (project_read call) (set_told told.body) (set_of notes.shelf) p v content put.1)
+        let put = kept_some (is_live told.horizon.newest p v) (put_set (project_read call.request) (set_told told.body) (set_of notes.shelf) p v) content (sym (noted.sets_are p v) ∙ is) in
+        of_two put.0 (put_cases (project_read call.request) (set_told told.body) (set_of notes.shelf) p v content put.1)
       where
-        of_two : is_live told.horizon.newest p v ≡ true → (set_of notes.shelf p v ≡ Some content) ⊎ ((project_read call ≡ Some p) × (set_told told.body ≡ Some (v, content)))
+        of_two : is_live told.horizon.newest p v ≡ true → (set_of notes.shelf p v ≡ Some content) ⊎ ((project_read call.request ≡ Some p) × (set_told told.body ≡ Some (v, content)))
             → OnShelf settings (before ++ added) sets p v content
         of_two live (inl old) = old_on p v content live old
         of_two live (inr new) = new_on p v content live new.0 new.1
 
     -- what is put and live is on the shelf
-    put_now : (p v : ℕ) (content : Version) → is_live told.horizon.newest p v ≡ true → put_set (project_read call) (set_told told.body) (set_of notes.shelf) p v ≡ Some content
+    put_now : (p v : ℕ) (content : Version) → is_live told.horizon.newest p v ≡ true → put_set (project_read call.request) (set_told told.body) (set_of notes.shelf) p v ≡ Some content
         → set_of now.shelf p v ≡ Some content
     put_now p v content live put =
-        noted.sets_are p v ∙ ap (λ b. cond b (put_set (project_read call) (set_told told.body) (set_of notes.shelf) p v) None) live ∙ put
+        noted.sets_are p v ∙ ap (λ b. cond b (put_set (project_read call.request) (set_told told.body) (set_of notes.shelf) p v) None) live ∙ put
 
     all_now : (p v : ℕ) → Contains sets (p, v) → newest_of p (before ++ added) < v + 16 → (content : Version) × (set_of now.shelf p v ≡ Some content)
-    all_now p v has lives = of_two (with_cases (project_read call) (set_told told.body) printed.sets p v has)
+    all_now p v has lives = of_two (with_cases (project_read call.request) (set_told told.body) printed.sets p v has)
       where
         of_kind : Contains printed.sets (p, v) → KeepsNothing notes printed.sets ⊎ KeepsSome settings seen notes printed → (content : Version) × (set_of now.shelf p v ≡ Some content)
         of_kind c (inl nothing) = absurd (none_in (p, v) (subst (λ (xs : List (ℕ × ℕ)). Contains xs (p, v)) nothing.1 c))
@@ -436,15 +457,15 @@ module _ (settings : Settings) (call : BookRequest) (stamp : Stamp) (seen others
             let there : newest_of p (some.front ++ more) < v + 16 = subst (λ (es : List Entry). newest_of p es < v + 16) whole lives in
             let x = some.holds.all p v c (omega (arith, rises, there)) in
             let on = some.holds.each p v x.0 x.1 in
-            let y = put_some (project_read call) (set_told told.body) (set_of notes.shelf) p v x.0 x.1 in
+            let y = put_some (project_read call.request) (set_told told.body) (set_of notes.shelf) p v x.0 x.1 in
             (y.0, put_now p v y.0 (live_told settings.projects p v (before ++ added) on.low on.few on.high lives) y.1)
 
-        of_two : Contains printed.sets (p, v) ⊎ ((content : Version) × (project_read call ≡ Some p) × (set_told told.body ≡ Some (v, content)))
+        of_two : Contains printed.sets (p, v) ⊎ ((content : Version) × (project_read call.request ≡ Some p) × (set_told told.body ≡ Some (v, content)))
             → (content : Version) × (set_of now.shelf p v ≡ Some content)
         of_two (inl old) = of_kind old keeps.kept
         of_two (inr (content, read, is)) =
-            let x = told_of settings before call p v content read is in
-            let put : put_set (project_read call) (set_told told.body) (set_of notes.shelf) p v ≡ Some content =
+            let x = told_of settings before stamp.turn call p v content read is in
+            let put : put_set (project_read call.request) (set_told told.body) (set_of notes.shelf) p v ≡ Some content =
             ap (λ (o : Option ℕ). put_set o (set_told told.body) (set_of notes.shelf) p v) read
             ∙ ap (λ (o : Option (ℕ × Version)). put_set (Some p) o (set_of notes.shelf) p v) is ∙ put_new (set_of notes.shelf) p v content in
             (content, put_now p v content (live_told settings.projects p v (before ++ added) x.low x.few x.high lives) put)
@@ -453,15 +474,15 @@ module _ (settings : Settings) (call : BookRequest) (stamp : Stamp) (seen others
     holds_now = record { horizon = noted.horizon_is; each = each_now; all = all_now }
 
 -- the shelf after the reply to a call in a turn
-pub keeps_noted : (settings : Settings) (call : BookRequest) (turn : ℕ) (told : BookReply) (v w : CallerSeen) (notes now : Notes) (printed : Printed) (step : Step)
-    → Keeps settings v.seen notes printed → TakesCall settings call turn told v w → Noted turn (project_read call) told notes now
-    → step ≡ record { stamp = stamp_in turn v; request = call } → Keeps settings w.seen now (printed_after step told printed)
+pub keeps_noted : (settings : Settings) (call : BookCall) (turn : ℕ) (told : BookReply) (v w : CallerSeen) (notes now : Notes) (printed : Printed) (step : Step)
+    → Keeps settings v.seen notes printed → TakesCall settings call turn told v w → Noted turn (project_read call.request) told notes now
+    → step ≡ record { stamp = stamp_in turn v; call = call } → Keeps settings w.seen now (printed_after step told printed)
 keeps_noted settings call turn told v w notes now printed step keeps c noted is =
     let h : List Entry = v.seen ++ c.others in
     let more : List Entry = added_by settings h (stamp_in turn v) call in
-    let own : Step = record { stamp = stamp_in turn v; request = call } in
-    let here : Noted turn (project_read call) (reply_of settings h (stamp_in turn v) call) notes now =
-    subst (λ (b : BookReply). Noted turn (project_read call) b notes now) c.replied noted in
+    let own : Step = record { stamp = stamp_in turn v; call = call } in
+    let here : Noted turn (project_read call.request) (reply_of settings h (stamp_in turn v) call) notes now =
+    subst (λ (b : BookReply). Noted turn (project_read call.request) b notes now) c.replied noted in
     let holds = holds_now settings call (stamp_in turn v) v.seen c.others notes now printed keeps here in
     let front : Front turn (h ++ more) (h ++ more) = front_all turn h more c.takes.below c.takes.in_turn in
     let kept : KeepsSome settings (h ++ more) now (printed_after own (reply_of settings h (stamp_in turn v) call) printed) =

@@ -11,7 +11,7 @@ use Rattle.http_frame.specs.Framers.{Stands}
 use Rattle.book_turn.specs.declared.call_fault.CallFault.{CallFault}
 use Rattle.book_turn.specs.declared.call_fault.CallFault.TheVariants.{Memory, PassSpent}
 use Rattle.book_turn.specs.declared.limits.TheConstants.{MOST_TURNS}
-use Rattle.book_history.specs.declared.requests.BookRequest.{BookRequest}
+use Rattle.book_history.specs.declared.requests.BookCall.{BookCall}
 use Rattle.book_history.specs.Runs.{Step}
 use Rattle.book_passes.specs.Lessons.{CallerSeen}
 use Rattle.book_passes.proofs.Learning.{learns_none}
@@ -400,11 +400,11 @@ goes_lacks k v w a b old new server so lacks source sink empty =
 -- ---- a call
 
 -- what the response needs that waits for a call of this request
-abbrev waiting_at : HttpRequest → ℕ → BookRequest → Waiting
-waiting_at r n call = waiting_for r n (asks_change call) (project_read call)
+abbrev waiting_at : HttpRequest → ℕ → BookCall → Waiting
+waiting_at r n call = waiting_for r n (asks_change call.request) (project_read call.request)
 
 -- a request was taken, which means the call, and asks for nothing that is kept
-pub record Asks (k : Service) (v : CallerSeen) (w a b : Outside) (old mid : TalkState) (server : CallerSeen) (so : SoFar k v w a old server) (call : BookRequest) (waiting : Waiting) : Type 0 where
+pub record Asks (k : Service) (v : CallerSeen) (w a b : Outside) (old mid : TalkState) (server : CallerSeen) (so : SoFar k v w a old server) (call : BookCall) (waiting : Waiting) : Type 0 where
   pub moments : List ℕ
   pub here : old.leaving ≡ None
   pub told : ClockGives a.clock b.clock moments
@@ -417,7 +417,7 @@ pub record Asks (k : Service) (v : CallerSeen) (w a b : Outside) (old mid : Talk
 same_waiting : (o : Option Waiting) (x y : Waiting) → o ≡ Some x → o ≡ Some y → y ≡ x
 same_waiting o x y e d = cc
 
-asks_of : (k : Service) (v : CallerSeen) (w a b : Outside) (old mid : TalkState) (server : CallerSeen) (so : SoFar k v w a old server) (call : BookRequest) (waiting : Waiting)
+asks_of : (k : Service) (v : CallerSeen) (w a b : Outside) (old mid : TalkState) (server : CallerSeen) (so : SoFar k v w a old server) (call : BookCall) (waiting : Waiting)
     → Wants a.clock b.clock old (Call call) mid → mid.waits ≡ Some waiting → Asks k v w a b old mid server so call waiting
 asks_of k v w a b old mid server so call waiting wants waits =
     let t = wants so.rest so.told so.stands in
@@ -434,7 +434,7 @@ asks_of k v w a b old mid server so call waiting wants waits =
           ∙ ap (λ (n : ℕ). waiting_at x.0.request (n + 1) call) so.served;
     }
 
-module _ (k : Service) (v : CallerSeen) (w a b : Outside) (old mid : TalkState) (server server' : CallerSeen) (so : SoFar k v w a old server) (call : BookRequest) (waiting : Waiting)
+module _ (k : Service) (v : CallerSeen) (w a b : Outside) (old mid : TalkState) (server server' : CallerSeen) (so : SoFar k v w a old server) (call : BookCall) (waiting : Waiting)
     (x : Asks k v w a b old mid server so call waiting) where
   mid_served : mid.served ≡ old.served
   mid_served = ap (λ (z : TalkState). z.served) x.state
@@ -505,7 +505,7 @@ module _ (k : Service) (v : CallerSeen) (w a b : Outside) (old mid : TalkState) 
       }
 
 -- the answer to a call in its turn
-answer_of : (k : Service) (v : CallerSeen) (w a b : Outside) (old mid : TalkState) (server server' : CallerSeen) (so : SoFar k v w a old server) (call : BookRequest) (waiting : Waiting)
+answer_of : (k : Service) (v : CallerSeen) (w a b : Outside) (old mid : TalkState) (server server' : CallerSeen) (so : SoFar k v w a old server) (call : BookCall) (waiting : Waiting)
     (x : Asks k v w a b old mid server so call waiting) (receipt : BookReceipt) (bytes : List ℕ) (later : Notes) → Calls k.settings call server (Ok receipt) server'
     → AnswersCall (Ok receipt) waiting mid.notes bytes later
     → CallAnswers k v server server' so.events so.steps so.printed x.one.moment x.one.request call receipt.turn bytes later
@@ -514,7 +514,7 @@ answer_of k v w a b old mid server server' so call waiting x receipt bytes later
     so.turns so.kept bytes later (response_of k v w a b old mid server server' so call waiting x (Ok receipt) bytes later answers)
 
 -- the answer to a call, in its turn or in none
-replied_called : (k : Service) (v : CallerSeen) (w a b : Outside) (old mid new : TalkState) (server server' : CallerSeen) (so : SoFar k v w a old server) (call : BookRequest) (waiting : Waiting)
+replied_called : (k : Service) (v : CallerSeen) (w a b : Outside) (old mid new : TalkState) (server server' : CallerSeen) (so : SoFar k v w a old server) (call : BookCall) (waiting : Waiting)
     (x : Asks k v w a b old mid server so call waiting) (receipt : Result BookReceipt CallFault) (bytes : List ℕ) → Calls k.settings call server receipt server'
     → k.goes server (steps_of call server receipt) server' → AnswersCall receipt waiting mid.notes bytes new.notes → new ≡ with_notes new.notes (with_answer waiting.close mid)
     → Replied k v w a old new server server' so x.moments bytes
@@ -530,7 +530,7 @@ replied_called k v w a b old mid new server server' so call waiting x (Err Memor
 replied_called k v w a b old mid new server server' so call waiting x (Err (PassSpent pass)) bytes calls goes answers new_is = absurd answers
 
 -- the answer to a call was written whole
-wrote_called : (k : Service) (v : CallerSeen) (w a b : Outside) (old mid new : TalkState) (server server' : CallerSeen) (so : SoFar k v w a old server) (call : BookRequest) (waiting : Waiting)
+wrote_called : (k : Service) (v : CallerSeen) (w a b : Outside) (old mid new : TalkState) (server server' : CallerSeen) (so : SoFar k v w a old server) (call : BookCall) (waiting : Waiting)
     (x : Asks k v w a b old mid server so call waiting) (receipt : Result BookReceipt CallFault) (bytes : List ℕ) → Calls k.settings call server receipt server'
     → k.goes server (steps_of call server receipt) server' → AnswersCall receipt waiting mid.notes bytes new.notes → new ≡ with_notes new.notes (with_answer waiting.close mid)
     → SinkTakes a.sink b.sink bytes → b.sink.faults ≡ a.sink.faults → b.source ≡ a.source → Owes k v w b new server'
@@ -542,13 +542,13 @@ wrote_called k v w a b old mid new server server' so call waiting x receipt byte
 -- ---- a call that ends the session
 
 -- where it stops, after the answers
-abbrev stop_called : (k : Service) (v : CallerSeen) (w a b : Outside) (old mid : TalkState) (server server' : CallerSeen) (so : SoFar k v w a old server) (call : BookRequest) (waiting : Waiting)
+abbrev stop_called : (k : Service) (v : CallerSeen) (w a b : Outside) (old mid : TalkState) (server server' : CallerSeen) (so : SoFar k v w a old server) (call : BookCall) (waiting : Waiting)
     → Asks k v w a b old mid server so call waiting → List ℕ → List Step → Stop
 stop_called k v w a b old mid server server' so call waiting x tail more =
     stop_of (start k v server') so.events so.steps so.printed b.source.ended so.rest so.told x.moments tail more
 
 -- no response was written
-ends_called : (k : Service) (v : CallerSeen) (w a b : Outside) (old mid : TalkState) (server server' : CallerSeen) (so : SoFar k v w a old server) (call : BookRequest) (waiting : Waiting)
+ends_called : (k : Service) (v : CallerSeen) (w a b : Outside) (old mid : TalkState) (server server' : CallerSeen) (so : SoFar k v w a old server) (call : BookCall) (waiting : Waiting)
     (x : Asks k v w a b old mid server so call waiting) (receipt : Result BookReceipt CallFault) (e : SessionEnd) → k.goes server (steps_of call server receipt) server'
     → b.source ≡ a.source → b.sink ≡ a.sink → EndsEmpty b.source → (IsReadFault e → ⊥) → (IsWriteFault e → ⊥) → ((n : ℕ) → e ≡ end.SpentTurns n → server'.made ≡ MOST_TURNS)
     → Ends (stop_called k v w a b old mid server server' so call waiting x [] (steps_of call server receipt)) e → Finishes k v server' w b e
@@ -561,7 +561,7 @@ ends_called k v w a b old mid server server' so call waiting x receipt e goes so
     (answered_then k v w a b old mid server server' so call waiting x receipt goes) ends
 
 -- memory ran out, and the request may have taken a turn
-lacked_called : (k : Service) (v : CallerSeen) (w a b : Outside) (old mid : TalkState) (server server' : CallerSeen) (so : SoFar k v w a old server) (call : BookRequest) (waiting : Waiting)
+lacked_called : (k : Service) (v : CallerSeen) (w a b : Outside) (old mid : TalkState) (server server' : CallerSeen) (so : SoFar k v w a old server) (call : BookCall) (waiting : Waiting)
     (x : Asks k v w a b old mid server so call waiting) (receipt : Result BookReceipt CallFault) → k.goes server (steps_of call server receipt) server'
     → b.source ≡ a.source → b.sink ≡ a.sink → EndsEmpty b.source
     → (let more : List Step = steps_of call server receipt in
@@ -587,7 +587,7 @@ lacked_called k v w a b old mid server server' so call waiting x receipt goes so
     ))
 
 -- no turn was left
-spent_called : (k : Service) (v : CallerSeen) (w a b : Outside) (old mid : TalkState) (server server' : CallerSeen) (so : SoFar k v w a old server) (call : BookRequest) (waiting : Waiting)
+spent_called : (k : Service) (v : CallerSeen) (w a b : Outside) (old mid : TalkState) (server server' : CallerSeen) (so : SoFar k v w a old server) (call : BookCall) (waiting : Waiting)
     (x : Asks k v w a b old mid server so call waiting) (fault : CallFault) → k.goes server [] server' → server'.made ≡ MOST_TURNS
     → b.source ≡ a.source → b.sink ≡ a.sink → EndsEmpty b.source → Finishes k v server' w b (end.SpentTurns old.served)
 spent_called k v w a b old mid server server' so call waiting x fault goes made source sink empty =
@@ -620,7 +620,7 @@ spent_called k v w a b old mid server server' so call waiting x fault goes made 
     spent_no_write n m e = cc
 
 -- the talk gives no answer
-left_called : (k : Service) (v : CallerSeen) (w a b : Outside) (old mid later : TalkState) (server server' : CallerSeen) (so : SoFar k v w a old server) (call : BookRequest) (waiting : Waiting)
+left_called : (k : Service) (v : CallerSeen) (w a b : Outside) (old mid later : TalkState) (server server' : CallerSeen) (so : SoFar k v w a old server) (call : BookCall) (waiting : Waiting)
     (x : Asks k v w a b old mid server so call waiting) (receipt : Result BookReceipt CallFault) (e : SessionEnd) → Calls k.settings call server receipt server'
     → k.goes server (steps_of call server receipt) server' → LeavesCall receipt mid e later → b.source ≡ a.source → b.sink ≡ a.sink → EndsEmpty b.source
     → Finishes k v server' w b e
@@ -640,7 +640,7 @@ left_called k v w a b old mid later server server' so call waiting x (Err (PassS
     (spent_called k v w a b old mid server server' so call waiting x (PassSpent pass) goes made source sink empty)
 
 -- the answer that comes next, of which a front was written
-next_called : (k : Service) (v : CallerSeen) (w a b : Outside) (old mid : TalkState) (server server' : CallerSeen) (so : SoFar k v w a old server) (call : BookRequest) (waiting : Waiting)
+next_called : (k : Service) (v : CallerSeen) (w a b : Outside) (old mid : TalkState) (server server' : CallerSeen) (so : SoFar k v w a old server) (call : BookCall) (waiting : Waiting)
     (x : Asks k v w a b old mid server so call waiting) (receipt : Result BookReceipt CallFault) (tail bytes : List ℕ) (later : Notes) → Calls k.settings call server receipt server'
     → AnswersCall receipt waiting mid.notes bytes later
     → IsNext (stop_called k v w a b old mid server server' so call waiting x tail (steps_of call server receipt)) bytes
@@ -659,7 +659,7 @@ next_called k v w a b old mid server server' so call waiting x (Err Memory) tail
 next_called k v w a b old mid server server' so call waiting x (Err (PassSpent pass)) tail bytes later calls answers = absurd answers
 
 -- the answer to a call was not written whole
-cut_called : (k : Service) (v : CallerSeen) (w a b : Outside) (old mid : TalkState) (server server' : CallerSeen) (so : SoFar k v w a old server) (call : BookRequest) (waiting : Waiting)
+cut_called : (k : Service) (v : CallerSeen) (w a b : Outside) (old mid : TalkState) (server server' : CallerSeen) (so : SoFar k v w a old server) (call : BookCall) (waiting : Waiting)
     (x : Asks k v w a b old mid server so call waiting) (receipt : Result BookReceipt CallFault) (bytes : List ℕ) (later : Notes) → Calls k.settings call server receipt server'
     → k.goes server (steps_of call server receipt) server' → AnswersCall receipt waiting mid.notes bytes later
     → WritesLess a.sink b.sink bytes → b.source ≡ a.source → EndsEmpty b.source → Finishes k v server' w b (end.WriteFault old.served)
@@ -681,7 +681,7 @@ cut_called k v w a b old mid server server' so call waiting x receipt bytes late
     ))))))
 
 -- after a call of the book
-goes_call : (k : Service) (v : CallerSeen) (w a b : Outside) (old mid new : TalkState) (server server' : CallerSeen) (call : BookRequest) (result : AfterStep) → SoFar k v w a old server
+goes_call : (k : Service) (v : CallerSeen) (w a b : Outside) (old mid new : TalkState) (server server' : CallerSeen) (call : BookCall) (result : AfterStep) → SoFar k v w a old server
     → Wants a.clock b.clock old (Call call) mid → Called k.settings k.goes call a.sink b.sink mid server result new server' → b.source ≡ a.source
     → EndsEmpty b.source → Goes k v old.served w b result new server'
 goes_call k v w a b old mid new server server' call Again so wants called source empty =

@@ -6,9 +6,9 @@ use Rattle.book_turn.specs.Entries.{AllAfter, calls_by, listed}
 use Rattle.book_turn.proofs.Prefixes.{calls_by-append}
 use Rattle.book_history.specs.declared.limits.Settings.{Settings}
 use Rattle.book_history.specs.declared.changes.Entry.{Entry}
-use Rattle.book_history.specs.declared.requests.BookRequest.{BookRequest}
+use Rattle.book_history.specs.declared.requests.BookCall.{BookCall}
 use Rattle.book_history.specs.History.{of_turn, IsBefore}
-use Rattle.book_history.specs.Requests.{Outcome, Refusal, Answer, Accepted, entry_by, outcome_of, added_by}
+use Rattle.book_history.specs.Requests.{Outcome, Refusal, Answer, Accepted, entry_by, outcome_in, added_by}
 use Rattle.book_history.specs.Runs.{Step}
 use Rattle.book_history.proofs.Histories.{AreOf, AreAbove, added_of, before_all, of_turn-grown, of_turn-new}
 use Rattle.book_passes.specs.Lessons.{CallerSeen, TakesTurn, own_of, stamp_in, turn_of}
@@ -57,11 +57,11 @@ made_own stamp (Answer body) = refl
 made_own stamp (Accepted number change) = ap (λ b. if b then listed (entry_by stamp (Accepted number change)) else []) (alone_has stamp.pass)
 
 -- what a call adds is by its pass
-added_own : (settings : Settings) (h : List Entry) (stamp : Stamp) (call : BookRequest) (ps : List ℕ) → ps ≡ stamp.pass ∷ []
+added_own : (settings : Settings) (h : List Entry) (stamp : Stamp) (call : BookCall) (ps : List ℕ) → ps ≡ stamp.pass ∷ []
     → calls_by (λ (e : Entry). e.stamp.pass) ps (added_by settings h stamp call) ≡ added_by settings h stamp call
 added_own settings h stamp call ps alone =
     subst (λ (qs : List ℕ). calls_by (λ (e : Entry). e.stamp.pass) qs (added_by settings h stamp call) ≡ added_by settings h stamp call) (sym alone)
-    (made_own stamp (outcome_of settings h call))
+    (made_own stamp (outcome_in settings h stamp.turn call))
 
 -- ---- what is known
 
@@ -108,11 +108,11 @@ known_skip v w w' steps k (inr (turn, others, takes)) =
     subst (λ (ss : List Step). GoesByPass v ss w') (append-nil steps) (known_turn v w w' steps [] turn others [] k takes refl refl tt tt)
 
 -- the step of a call in a turn
-abbrev pub step_in : ℕ → CallerSeen → BookRequest → Step
-step_in turn w call = record { stamp = stamp_in turn w; request = call }
+abbrev pub step_in : ℕ → CallerSeen → BookCall → Step
+step_in turn w call = record { stamp = stamp_in turn w; call = call }
 
 -- a call was answered
-pub known_call : (settings : Settings) (v w w' : CallerSeen) (steps : List Step) (turn : ℕ) (call : BookRequest) (others : List Entry) → GoesByPass v steps w
+pub known_call : (settings : Settings) (v w w' : CallerSeen) (steps : List Step) (turn : ℕ) (call : BookCall) (others : List Entry) → GoesByPass v steps w
     → TakesTurn turn others (added_by settings (w.seen ++ others) (stamp_in turn w) call) w w' → GoesByPass v (steps ++ step_in turn w call ∷ []) w'
 known_call settings v w w' steps turn call others k t =
     let h : List Entry = w.seen ++ others in
@@ -126,7 +126,7 @@ known_call settings v w w' steps turn call others k t =
     (append-nil (of_turn turn w'.seen) ∙ entries) (number, tt) ((let same : turn ≤ turn = omega arith in same), tt)
 
 -- a call, answered or not
-pub goes_call : (settings : Settings) (call : BookRequest) (v : CallerSeen) (result : Result BookReceipt CallFault) (w : CallerSeen) → v.numbers ≡ v.number ∷ []
+pub goes_call : (settings : Settings) (call : BookCall) (v : CallerSeen) (result : Result BookReceipt CallFault) (w : CallerSeen) → v.numbers ≡ v.number ∷ []
     → Calls settings call v result w → GoesByPass v (steps_of call v result) w
 goes_call settings call v (Ok receipt) w alone calls = known_call settings v v w [] receipt.turn call calls.others (known_none v alone) calls.takes
 goes_call settings call v (Err Memory) w alone skips = known_skip v v w [] (known_none v alone) skips

@@ -15,7 +15,7 @@ gives_moved s l p n last step g = record {
   order = g.order;
   some = g.some;
   turn = g.turn;
-  request = g.request;
+  call = g.call;
   taken = taken_moved s l p n step g.taken;
   given = g.given;
 }
@@ -30,7 +30,7 @@ one_moved s l p n last steps w = record {
   gives = gives_moved s l p n last w.first w.gives;
   found = w.found;
   turn = w.turn;
-  request = w.request;
+  call = w.call;
   taken = taken_moved s l p n w.second w.taken;
 }
 

@@ -6,7 +6,7 @@ use Rattle.book_turn.specs.declared.call_fault.CallFault.TheVariants.{Memory, Pa
 use Rattle.book_turn.specs.declared.limits.TheConstants.{MOST_TURNS}
 use Rattle.book_history.specs.declared.limits.Settings.{Settings}
 use Rattle.book_history.specs.declared.changes.Entry.{Entry}
-use Rattle.book_history.specs.declared.requests.BookRequest.{BookRequest}
+use Rattle.book_history.specs.declared.requests.BookCall.{BookCall}
 use Rattle.book_history.specs.History.{of_turn}
 use Rattle.book_history.specs.Runs.{Step}
 use Rattle.book_passes.specs.Lessons.{CallerSeen, TakesTurn, Learns, own_of, stamp_in}
@@ -22,15 +22,15 @@ Skips v w = (w ≡ v) ⊎ ((turn : ℕ) × (others : List Entry) × TakesTurn tu
 
 -- A call takes a turn and is answered at the entries below it; or memory runs out, and nothing is added; or the pass has
 -- made all its turns, and nothing happens.
-abbrev pub Calls : Settings → BookRequest → CallerSeen → Result BookReceipt CallFault → CallerSeen → Type 0
-Calls settings request v (Ok receipt) w = TakesCall settings request receipt.turn receipt.reply v w
-Calls settings request v (Err Memory) w = Skips v w
-Calls settings request v (Err (PassSpent pass)) w = (v.made ≡ MOST_TURNS) × (w ≡ v)
+abbrev pub Calls : Settings → BookCall → CallerSeen → Result BookReceipt CallFault → CallerSeen → Type 0
+Calls settings call v (Ok receipt) w = TakesCall settings call receipt.turn receipt.reply v w
+Calls settings call v (Err Memory) w = Skips v w
+Calls settings call v (Err (PassSpent pass)) w = (v.made ≡ MOST_TURNS) × (w ≡ v)
 
 -- the steps of a call: one where it is answered
-abbrev pub steps_of : BookRequest → CallerSeen → Result BookReceipt CallFault → List Step
-steps_of request v (Ok receipt) = record { stamp = stamp_in receipt.turn v; request = request } ∷ []
-steps_of request v (Err fault) = []
+abbrev pub steps_of : BookCall → CallerSeen → Result BookReceipt CallFault → List Step
+steps_of call v (Ok receipt) = record { stamp = stamp_in receipt.turn v; call = call } ∷ []
+steps_of call v (Err fault) = []
 
 -- it came to see some entries after those that it had seen
 abbrev pub LearnsBy : CallerSeen → CallerSeen → Type 0

@@ -6,7 +6,7 @@ ghost use Rattle.link_session.specs.Callers.{GoesByPass};
 
 use crate::caller::Caller;
 use bim_net::Gate;
-use book_history::BookRequest;
+use book_history::BookCall;
 use book_turn::call_fault::CallFault;
 use book_turn::pass::Pass;
 use book_turn::turn::{Receipt, Turn};
@@ -39,9 +39,9 @@ impl<'a, R: Wait, G: Gate> Caller for ByTurn<'a, R, G> {
         own.last()
     }
 
-    fn call(&self, own: &mut Pass<Book>, request: BookRequest) -> Result<Receipt<Book>, CallFault> {
+    fn call(&self, own: &mut Pass<Book>, call: BookCall) -> Result<Receipt<Book>, CallFault> {
         self.gate.before_call(own.number(), false);
-        self.turn.call(self.rt, own, request)
+        self.turn.call(self.rt, own, call)
     }
 
     fn work(&self, own: &mut Pass<Book>) -> Result<(), AllocError> {

@@ -6,7 +6,7 @@ ghost use Rattle.bcf_http.specs.Asked.{BringsNone};
 ghost use Rattle.book_passes.specs.Lessons.{CallerSeen};
 ghost use Rattle.link_session.specs.Callers.{Calls, steps_of, WorksBehind};
 
-use book_history::BookRequest;
+use book_history::BookCall;
 use book_turn::call_fault::CallFault;
 use book_turn::turn::Receipt;
 use federation_book::Book;
@@ -40,12 +40,12 @@ pub trait Caller {
         ensures { result ≡ (seen own.now).last };
 
     /// Calls the book. An `Err` adds no entry.
-    fn call(&self, own: &mut Self::Own, request: BookRequest) -> Result<Receipt<Book>, CallFault>
+    fn call(&self, own: &mut Self::Own, call: BookCall) -> Result<Receipt<Book>, CallFault>
         requires fits { fits self.now own.old }
-        requires none { BringsNone request }
+        requires none { BringsNone call.request }
         ensures fits { fits self.now own.new }
-        ensures calls { Calls (settings self.now) request (seen own.old) result (seen own.new) }
-        ensures goes { goes self.now (seen own.old) (steps_of request (seen own.old) result) (seen own.new) };
+        ensures calls { Calls (settings self.now) call (seen own.old) result (seen own.new) }
+        ensures goes { goes self.now (seen own.old) (steps_of call (seen own.old) result) (seen own.new) };
 
     /// Works buckets after an answer. An `Err` says that memory ran out before all were worked.
     fn work(&self, own: &mut Self::Own) -> Result<(), AllocError>

@@ -9,7 +9,7 @@ ghost use Rattle.link_session.specs.inner.Loop.{Reading, Writing, Called, StepsO
 use crate::caller::Caller;
 use bim_io::{Clock, Sink, Source, write_whole};
 use bim_session::{MOST_READ, SessionEnd, Talk, Want};
-use book_history::BookRequest;
+use book_history::BookCall;
 use std::alloc::Global;
 
 /// Whether a session goes on after a step.
@@ -52,12 +52,12 @@ fn call_book<B: Caller, K: Sink>(
     caller: &B,
     own: &mut B::Own,
     sink: &mut K,
-    call: BookRequest,
+    call: BookCall,
 ) -> AfterStep
     requires waits { IsSome talk.old.waits }
     requires leaving { talk.old.leaving ≡ None }
     requires fits { B.fits caller.now own.old }
-    requires none { BringsNone call }
+    requires none { BringsNone call.request }
     ensures fits { B.fits caller.now own.new }
     ensures step { Called (B.settings caller.now) (B.goes caller.now) call (K.seen sink.old)
         (K.seen sink.new) talk.old

@@ -8,7 +8,7 @@ ghost use Rattle.serve_lanes.specs.Lanes.{ServedLink, LaneServed, kind_of, is_me
 use bim_io::Clock;
 use bim_net::{Door, EndKind, Gate, LinkEnd};
 use bim_session::SessionEnd;
-use book_history::BookRequest;
+use book_history::{BookCall, BookRequest};
 use book_turn::call_fault::{CallFault, SpentPass};
 use book_turn::pass::Pass;
 use book_turn::turn::Turn;
@@ -58,7 +58,11 @@ fn spent_of<R: Wait>(rt: &R, turn: &Turn<Book>, pass: &mut Pass<Book>) -> Option
     ensures some { IsSome result }
     ensures same { pass.new ≡ pass.old }
 {
-    match turn.call(rt, pass, BookRequest::ListProjects) {
+    let call = BookCall {
+        seen: None,
+        request: BookRequest::ListProjects,
+    };
+    match turn.call(rt, pass, call) {
         Err(CallFault::PassSpent(spent)) => Some(spent),
         _ => unreachable!(),
     }

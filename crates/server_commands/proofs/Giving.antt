@@ -9,24 +9,18 @@ use Rattle.book_history.specs.declared.limits.Settings.{Settings}
 use Rattle.book_history.specs.declared.changes.Entry.{Entry}
 use Rattle.book_history.specs.declared.replies.BookReply.{BookReply}
 use Rattle.book_history.specs.declared.replies.ReplyBody.TheVariants.{Work}
-use Rattle.book_history.specs.declared.requests.BookRequest.{BookRequest}
+use Rattle.book_history.specs.declared.requests.BookCall.{BookCall}
 use Rattle.book_history.specs.declared.requests.BookRequest.TheVariants.{TakeWork, Finish}
 use Rattle.book_history.specs.Orders.{OrderValue, order_of}
 use Rattle.book_history.specs.Versions.{VersionState, live_in, first_live}
 use Rattle.book_history.specs.History.{state_of, left_in, live_of, project_numbers}
-use Rattle.book_history.specs.Requests.{orders_in, orders_from, orders_of, all_orders, order_for, body_of, reply_of, added_by}
+use Rattle.book_history.specs.Requests.{orders_in, orders_from, orders_of, all_orders, order_for, body_of, without_turn, reply_of, added_by}
 use Rattle.book_history.specs.Legal.{IsLegal}
 use Rattle.book_history.proofs.Given.{given_out}
 use Rattle.book_history.proofs.Legality.{given_later}
-use Rattle.bcf_http.specs.Asked.{BringsNone}
 use Rattle.bim_session.specs.Works.{IsFoundFor}
 use Rattle.server_commands.specs.inner.Turns.{ServerState, Calls, with_turn, stamp_of, left_of}
 use Rattle.server_commands.specs.inner.BucketWork.{GivesOut}
-
--- a call that brings no set may be made at every history
-pub legal_of : (settings : Settings) (h : List Entry) (call : BookRequest) → BringsNone call → IsLegal settings h call
-legal_of settings h (Finish set) none = absurd (none set refl)
-legal_of settings h _ none = tt
 
 -- ---- as many orders as buckets are left
 
@@ -64,7 +58,7 @@ gives_some s some =
 -- ---- the two calls
 
 -- a call takes the next turn
-pub calls_ok : (call : BookRequest) (old : ServerState) (settings : Settings) (history : List Entry) (turn : ℕ) (reply : BookReply) → turn ≡ old.turns + 1
+pub calls_ok : (call : BookCall) (old : ServerState) (settings : Settings) (history : List Entry) (turn : ℕ) (reply : BookReply) → turn ≡ old.turns + 1
     → reply ≡ reply_of old.settings old.history (stamp_of turn) call → history ≡ old.history ++ added_by old.settings old.history (stamp_of turn) call → settings ≡ old.settings
     → Calls call old (Ok (record { turn = turn; reply = reply })) (record { settings = settings; history = history; turns = turn })
 calls_ok call old settings history turn reply next is grown same =
@@ -75,8 +69,8 @@ calls_ok call old settings history turn reply next is grown same =
 
 -- the set of an order that was given out may be brought at the next turn
 pub set_legal : (s : ServerState) (order : OrderValue) (set : SetValue) → GivesOut s order → IsFoundFor order set → IsBucket set.work.grid.boxes set.work.cell
-    → IsLegal s.settings (with_turn (TakeWork 0) s).history (Finish set)
+    → IsLegal s.settings (with_turn (without_turn (TakeWork 0)) s).history (Finish set)
 set_legal s order set given found bucket =
     let work : GivesOut s (order_of set.work) = subst (λ o. GivesOut s o) (sym found.order_is) given in
-    given_later s.settings s.history (added_by s.settings s.history (stamp_of (s.turns + 1)) (TakeWork 0)) set.work
+    given_later s.settings s.history (added_by s.settings s.history (stamp_of (s.turns + 1)) (without_turn (TakeWork 0))) set.work
     (given_out s.settings s.history 0 set.work work bucket)

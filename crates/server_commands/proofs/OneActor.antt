@@ -5,7 +5,7 @@ use Rattle.std.specs.declared.alloc.AllocError.{AllocError}
 use Rattle.book_turn.specs.Entries.{AllBefore, AllAfter}
 use Rattle.book_history.specs.declared.limits.Settings.{Settings}
 use Rattle.book_history.specs.declared.changes.Entry.{Entry}
-use Rattle.book_history.specs.declared.requests.BookRequest.{BookRequest}
+use Rattle.book_history.specs.declared.requests.BookCall.{BookCall}
 use Rattle.book_history.specs.History.{IsBefore}
 use Rattle.book_history.specs.Requests.{reply_of, added_by}
 use Rattle.book_history.specs.Runs.{Step, IsRun}
@@ -87,7 +87,7 @@ laws_alone settings buckets = record {
 -- ---- a call
 
 -- the next turn is taken
-takes_next : (s : ServerState) (call : BookRequest) → IsBefore (s.turns + 1) s.history
+takes_next : (s : ServerState) (call : BookCall) → IsBefore (s.turns + 1) s.history
     → TakesTurn (s.turns + 1) [] (added_by s.settings (s.history ++ []) (stamp_in (s.turns + 1) (seen_alone s)) call) (seen_alone s) (seen_alone (with_turn call s))
 takes_next s call before = record {
   keeps = record { number = refl; numbers = refl };
@@ -102,7 +102,7 @@ takes_next s call before = record {
 }
 
 -- a call that was answered took its turn
-pub taken_alone : (settings : Settings) (call : BookRequest) (old new : ServerState) (receipt : BookReceipt) → IsSettled settings old → Calls call old (Ok receipt) new
+pub taken_alone : (settings : Settings) (call : BookCall) (old new : ServerState) (receipt : BookReceipt) → IsSettled settings old → Calls call old (Ok receipt) new
     → TakesCall settings call receipt.turn receipt.reply (seen_alone old) (seen_alone new)
 taken_alone settings call old new receipt ready calls =
     let own : TakesCall old.settings call (old.turns + 1) receipt.reply (seen_alone old) (seen_alone (with_turn call old)) = record {
@@ -115,10 +115,10 @@ taken_alone settings call old new receipt ready calls =
     (subst (λ (z : ServerState). TakesCall old.settings call (old.turns + 1) receipt.reply (seen_alone old) (seen_alone z)) (sym calls.2) own))
 
 -- .. by its one step
-pub went_alone : (settings : Settings) (call : BookRequest) (old new : ServerState) (receipt : BookReceipt) → IsSettled settings old → Calls call old (Ok receipt) new
-    → (let step : Step = record { stamp = stamp_in receipt.turn (seen_alone old); request = call } in GoesAlone settings (seen_alone old) (step ∷ []) (seen_alone new))
+pub went_alone : (settings : Settings) (call : BookCall) (old new : ServerState) (receipt : BookReceipt) → IsSettled settings old → Calls call old (Ok receipt) new
+    → (let step : Step = record { stamp = stamp_in receipt.turn (seen_alone old); call = call } in GoesAlone settings (seen_alone old) (step ∷ []) (seen_alone new))
 went_alone settings call old new receipt ready calls =
-    subst (λ (n : ℕ). (let step : Step = record { stamp = stamp_in n (seen_alone old); request = call } in GoesAlone settings (seen_alone old) (step ∷ []) (seen_alone new))) (sym calls.0)
+    subst (λ (n : ℕ). (let step : Step = record { stamp = stamp_in n (seen_alone old); call = call } in GoesAlone settings (seen_alone old) (step ∷ []) (seen_alone new))) (sym calls.0)
     (subst (λ (z : ServerState). GoesAlone settings (seen_alone old) (step_of old call ∷ []) (seen_alone z)) (sym calls.2)
     (alone_of settings old (with_turn call old) (step_of old call ∷ []) ready (extends_one old call)))
 

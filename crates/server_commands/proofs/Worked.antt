@@ -2,11 +2,11 @@
 use Rattle.std.proofs.Common.{◌≡◌, ◌⊎◌, inl, inr, ℕ, zero, suc, ◌+◌, ◌*◌, ◌<◌, ◌≤◌, List, [], ◌∷◌, ◌++◌, length, sym, ◌∙◌, ap, subst, refl, append_assoc, append-nil, length-append, arith}
 use Rattle.std.proofs.lemmas.List.Elements.{All-nil, All-cons, All-append, All-weaker}
 use Rattle.book_history.specs.declared.changes.Entry.{Entry}
-use Rattle.book_history.specs.declared.requests.BookRequest.{BookRequest}
+use Rattle.book_history.specs.declared.requests.BookCall.{BookCall}
 use Rattle.book_history.specs.declared.requests.BookRequest.TheVariants.{TakeWork, Finish}
 use Rattle.book_history.specs.Orders.{OrderValue}
 use Rattle.book_history.specs.History.{at_turn, left_all, IsBefore}
-use Rattle.book_history.specs.Requests.{reply_of, added_by}
+use Rattle.book_history.specs.Requests.{without_turn, reply_of, added_by}
 use Rattle.book_history.specs.Runs.{Step, IsRun, IsOneThread}
 use Rattle.book_history.proofs.Histories.{AreOf, AreAbove, added_of, above_of, at_turn-new, at_turn-grown, Runs_push, follows_one, one_push}
 use Rattle.bim_session.specs.Works.{Standing, IsTaken, Gives, WorksOne, WorksOn, left_behind, last_turn}
@@ -15,11 +15,11 @@ use Rattle.server_commands.specs.inner.Turns.{ServerState, with_turn, stamp_of, 
 use Rattle.server_commands.specs.inner.BucketWork.{GivesOut, WorksBucket, WorksTimes, WorksPart}
 
 -- the step of a call at the next turn
-abbrev pub step_of : ServerState → BookRequest → Step
-step_of server call = record { stamp = stamp_of (server.turns + 1); request = call }
+abbrev pub step_of : ServerState → BookCall → Step
+step_of server call = record { stamp = stamp_of (server.turns + 1); call = call }
 
 -- the next turn is taken, where the history has what the call adds there
-taken_next : (s : Standing) (server : ServerState) (call : BookRequest) → IsBefore (server.turns + 1) server.history
+taken_next : (s : Standing) (server : ServerState) (call : BookCall) → IsBefore (server.turns + 1) server.history
     → IsTaken (record s { settings = server.settings; history = (with_turn call server).history; top = server.turns + 1 }) (step_of server call)
 taken_next s server call earlier = record {
   within = (let same : server.turns + 1 ≤ server.turns + 1 = omega arith in same);
@@ -81,7 +81,7 @@ extends_none s = record {
 }
 
 -- the next turn is taken
-pub extends_one : (s : ServerState) (call : BookRequest) → Extends s (with_turn call s) (step_of s call ∷ [])
+pub extends_one : (s : ServerState) (call : BookCall) → Extends s (with_turn call s) (step_of s call ∷ [])
 extends_one s call =
     let added : List Entry = added_by s.settings s.history (stamp_of (s.turns + 1)) call in
     let own : AreOf (s.turns + 1) added = added_of s.settings s.history (stamp_of (s.turns + 1)) call in
@@ -126,14 +126,14 @@ extends_to a b c xs p same = subst (λ (s : ServerState). Extends a s xs) (sym s
 
 -- the two steps of a bucket
 abbrev pub bucket_steps : (mid new : ServerState) → WorksBucket mid new → List Step
-bucket_steps mid new works = step_of mid (TakeWork 0) ∷ step_of (with_turn (TakeWork 0) mid) (Finish works.set) ∷ []
+bucket_steps mid new works = step_of mid (without_turn (TakeWork 0)) ∷ step_of (with_turn (without_turn (TakeWork 0)) mid) (without_turn (Finish works.set)) ∷ []
 
 bucket_extends : (mid new : ServerState) (works : WorksBucket mid new) → Extends mid new (bucket_steps mid new works)
 bucket_extends mid new works =
-    let first : ServerState = with_turn (TakeWork 0) mid in
-    extends_to mid (with_turn (Finish works.set) first) new (bucket_steps mid new works)
-    (extends_on mid first (with_turn (Finish works.set) first) (step_of mid (TakeWork 0) ∷ []) (step_of first (Finish works.set) ∷ [])
-    (extends_one mid (TakeWork 0)) (extends_one first (Finish works.set)))
+    let first : ServerState = with_turn (without_turn (TakeWork 0)) mid in
+    extends_to mid (with_turn (without_turn (Finish works.set)) first) new (bucket_steps mid new works)
+    (extends_on mid first (with_turn (without_turn (Finish works.set)) first) (step_of mid (without_turn (TakeWork 0)) ∷ []) (step_of first (without_turn (Finish works.set)) ∷ [])
+    (extends_one mid (without_turn (TakeWork 0))) (extends_one first (without_turn (Finish works.set))))
     works.new_is
 
 -- the steps of so many buckets
@@ -163,18 +163,18 @@ at_server s server = record s { settings = server.settings; history = server.his
 
 -- a bucket is given out
 pub gives_here : (s : Standing) (mid : ServerState) (order : OrderValue) → 0 < left_of mid → GivesOut mid order → IsBefore (mid.turns + 1) mid.history
-    → Gives (at_server s (with_turn (TakeWork 0) mid)) mid.turns (step_of mid (TakeWork 0))
+    → Gives (at_server s (with_turn (without_turn (TakeWork 0)) mid)) mid.turns (step_of mid (without_turn (TakeWork 0)))
 gives_here s mid order some given before =
-    let added : List Entry = added_by mid.settings mid.history (stamp_of (mid.turns + 1)) (TakeWork 0) in
-    let own : AreOf (mid.turns + 1) added = added_of mid.settings mid.history (stamp_of (mid.turns + 1)) (TakeWork 0) in
+    let added : List Entry = added_by mid.settings mid.history (stamp_of (mid.turns + 1)) (without_turn (TakeWork 0)) in
+    let own : AreOf (mid.turns + 1) added = added_of mid.settings mid.history (stamp_of (mid.turns + 1)) (without_turn (TakeWork 0)) in
     let at : at_turn (mid.turns + 1) (mid.history ++ added) ≡ mid.history = at_turn-new (mid.turns + 1) mid.history added before own in
     record {
       order = order;
       some = subst (λ h. 0 < left_all mid.settings.projects h) (sym at) some;
       turn = refl;
-      request = refl;
-      taken = taken_next s mid (TakeWork 0) before;
-      given = ap (λ h. (reply_of mid.settings h (stamp_of (mid.turns + 1)) (TakeWork 0)).body) at ∙ given;
+      call = refl;
+      taken = taken_next s mid (without_turn (TakeWork 0)) before;
+      given = ap (λ h. (reply_of mid.settings h (stamp_of (mid.turns + 1)) (without_turn (TakeWork 0))).body) at ∙ given;
     }
 
 -- a bucket is worked
@@ -182,35 +182,35 @@ one_here : (s : Standing) (mid new : ServerState) (works : WorksBucket mid new) 
     → WorksOne (at_server s new) mid.turns (bucket_steps mid new works)
 unfolding gives_here
 one_here s mid new works some before =
-    let first : ServerState = with_turn (TakeWork 0) mid in
-    let second : ServerState = with_turn (Finish works.set) first in
-    let one = extends_one mid (TakeWork 0) in
-    let more : List Entry = added_by first.settings first.history (stamp_of (first.turns + 1)) (Finish works.set) in
+    let first : ServerState = with_turn (without_turn (TakeWork 0)) mid in
+    let second : ServerState = with_turn (without_turn (Finish works.set)) first in
+    let one = extends_one mid (without_turn (TakeWork 0)) in
+    let more : List Entry = added_by first.settings first.history (stamp_of (first.turns + 1)) (without_turn (Finish works.set)) in
     let above : AreAbove first.turns more =
-    above_of (first.turns + 1) first.turns more (omega arith) (added_of first.settings first.history (stamp_of (first.turns + 1)) (Finish works.set)) in
+    above_of (first.turns + 1) first.turns more (omega arith) (added_of first.settings first.history (stamp_of (first.turns + 1)) (without_turn (Finish works.set))) in
     let after : IsBefore (first.turns + 1) first.history = one.earlier before in
     let here = gives_here s mid works.order some works.given before in
-    let grown : Gives (at_server s second) mid.turns (step_of mid (TakeWork 0)) =
-    gives_grown (at_server s first) more second.turns mid.turns (step_of mid (TakeWork 0)) here (let le : first.turns ≤ first.turns + 1 = omega arith in le) above in
+    let grown : Gives (at_server s second) mid.turns (step_of mid (without_turn (TakeWork 0))) =
+    gives_grown (at_server s first) more second.turns mid.turns (step_of mid (without_turn (TakeWork 0))) here (let le : first.turns ≤ first.turns + 1 = omega arith in le) above in
     let whole : WorksOne (at_server s second) mid.turns (bucket_steps mid new works) = record {
-      first = step_of mid (TakeWork 0);
-      second = step_of first (Finish works.set);
+      first = step_of mid (without_turn (TakeWork 0));
+      second = step_of first (without_turn (Finish works.set));
       set = works.set;
       two = refl;
       gives = record {
         order = works.order;
         some = grown.some;
         turn = grown.turn;
-        request = grown.request;
+        call = grown.call;
         taken = grown.taken;
-        given = ap (λ es. (reply_of mid.settings es (stamp_of (mid.turns + 1)) (TakeWork 0)).body)
+        given = ap (λ es. (reply_of mid.settings es (stamp_of (mid.turns + 1)) (without_turn (TakeWork 0))).body)
             (at_turn-grown (mid.turns + 1) first.turns first.history more (let le : mid.turns + 1 ≤ mid.turns + 1 = omega arith in le) above)
             ∙ here.given;
       };
       found = works.found;
       turn = (let e : mid.turns + 1 + 1 ≡ mid.turns + 2 = omega arith in e);
-      request = refl;
-      taken = taken_next s first (Finish works.set) after;
+      call = refl;
+      taken = taken_next s first (without_turn (Finish works.set)) after;
     } in
     subst (λ (z : ServerState). WorksOne (at_server s z) mid.turns (bucket_steps mid new works)) (sym works.new_is) whole
 
@@ -247,30 +247,30 @@ pub left_here : (s : Standing) (server : ServerState) → IsBefore (server.turns
 left_here s server before = ap (λ h. left_all server.settings.projects h) (at_whole (server.turns + 1) server.history before)
 
 -- .. before a bucket was given out there
-pub left_next : (s : Standing) (mid : ServerState) → IsBefore (mid.turns + 1) mid.history → left_behind (at_server s (with_turn (TakeWork 0) mid)) mid.turns ≡ left_of mid
+pub left_next : (s : Standing) (mid : ServerState) → IsBefore (mid.turns + 1) mid.history → left_behind (at_server s (with_turn (without_turn (TakeWork 0)) mid)) mid.turns ≡ left_of mid
 left_next s mid before =
     ap (λ h. left_all mid.settings.projects h)
-    (at_turn-new (mid.turns + 1) mid.history (added_by mid.settings mid.history (stamp_of (mid.turns + 1)) (TakeWork 0)) before
-    (added_of mid.settings mid.history (stamp_of (mid.turns + 1)) (TakeWork 0)))
+    (at_turn-new (mid.turns + 1) mid.history (added_by mid.settings mid.history (stamp_of (mid.turns + 1)) (without_turn (TakeWork 0))) before
+    (added_of mid.settings mid.history (stamp_of (mid.turns + 1)) (without_turn (TakeWork 0))))
 
 -- ---- work that stopped
 
 -- the steps of work that stopped
 pub part_steps : (mid later : ServerState) → WorksPart mid later → List Step
 part_steps mid later (inl same) = []
-part_steps mid later (inr given) = step_of mid (TakeWork 0) ∷ []
+part_steps mid later (inr given) = step_of mid (without_turn (TakeWork 0)) ∷ []
 
 pub part_extends : (mid later : ServerState) (part : WorksPart mid later) → Extends mid later (part_steps mid later part)
 unfolding part_steps
 part_extends mid later (inl same) = extends_to mid mid later [] (extends_none mid) same
-part_extends mid later (inr given) = extends_to mid (with_turn (TakeWork 0) mid) later (step_of mid (TakeWork 0) ∷ []) (extends_one mid (TakeWork 0)) given.2
+part_extends mid later (inr given) = extends_to mid (with_turn (without_turn (TakeWork 0)) mid) later (step_of mid (without_turn (TakeWork 0)) ∷ []) (extends_one mid (without_turn (TakeWork 0))) given.2
 
 pub part_given : (s : Standing) (mid later : ServerState) (part : WorksPart mid later) → 0 < left_of mid → IsBefore (mid.turns + 1) mid.history
     → (part_steps mid later part ≡ []) ⊎ ((step : Step) × (part_steps mid later part ≡ step ∷ []) × Gives (at_server s later) mid.turns step)
 unfolding part_steps
 part_given s mid later (inl same) some before = inl refl
 part_given s mid later (inr given) some before =
-    inr (step_of mid (TakeWork 0), refl, subst (λ (z : ServerState). Gives (at_server s z) mid.turns (step_of mid (TakeWork 0))) (sym given.2) (gives_here s mid given.0 some given.1 before))
+    inr (step_of mid (without_turn (TakeWork 0)), refl, subst (λ (z : ServerState). Gives (at_server s z) mid.turns (step_of mid (without_turn (TakeWork 0)))) (sym given.2) (gives_here s mid given.0 some given.1 before))
 
 -- how many buckets were left where the work stopped
 pub left_before : (s : Standing) (mid later : ServerState) → WorksPart mid later → IsBefore (mid.turns + 1) mid.history → left_behind (at_server s later) mid.turns ≡ left_of mid

@@ -3,7 +3,7 @@ ghost use Rattle.bim_session.specs.Replay.{stated_settings};
 ghost use Rattle.server_commands.specs.inner.OneActor.{seen_alone, IsSettled, GoesAlone};
 
 use crate::one_thread::OneThread;
-use book_history::BookRequest;
+use book_history::BookCall;
 use book_turn::call_fault::CallFault;
 use book_turn::turn::Receipt;
 use federation_book::Book;
@@ -36,8 +36,8 @@ impl Caller for Alone {
         own.turns()
     }
 
-    fn call(&self, own: &mut OneThread, request: BookRequest) -> Result<Receipt<Book>, CallFault> {
-        match own.call(request) {
+    fn call(&self, own: &mut OneThread, call: BookCall) -> Result<Receipt<Book>, CallFault> {
+        match own.call(call) {
             Ok(receipt) => Ok(receipt),
             Err(_) => Err(CallFault::Memory),
         }

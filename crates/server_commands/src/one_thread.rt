@@ -9,7 +9,7 @@ ghost use Rattle.server_commands.specs.inner.Turns.{Calls, left_of};
 ghost use Rattle.server_commands.specs.inner.BucketWork.{WorksBucket, WorksPart, WorksUpTo, WorksLess, WorksAll, WorksSome};
 
 use bim_model::{Shared, Steps, know};
-use book_history::{BookRequest, Limits, MOST_PROJECTS, ReplyBody, Stamp, WorkOrder};
+use book_history::{BookCall, BookRequest, Limits, MOST_PROJECTS, ReplyBody, Stamp, WorkOrder};
 use book_turn::turn::Receipt;
 use bucket_check::{BucketSet, Room, check};
 use federation_book::Book;
@@ -85,16 +85,16 @@ impl OneThread {
         self.book.left_all()
     }
 
-    /// Answers a request at the next turn. An `Err` takes no turn and changes nothing. The number of the last turn fits
+    /// Answers a call at the next turn. An `Err` takes no turn and changes nothing. The number of the last turn fits
     /// 64 bits: a call that would take one more is an `Err`.
-    pub fn call(&mut self, request: BookRequest) -> Result<Receipt<Book>, AllocError>
-        requires { IsLegal self.old.settings self.old.history request }
-        ensures receipt { Calls request self.old result self.new }
+    pub fn call(&mut self, call: BookCall) -> Result<Receipt<Book>, AllocError>
+        requires { IsLegal self.old.settings self.old.history call.request }
+        ensures receipt { Calls call self.old result self.new }
         ensures before { IsBefore (self.new.turns + 1) self.new.history }
         ensures settings { self.new.settings ≡ self.old.settings }
     {
         let Some(turn) = self.turns.checked_add(1) else {
-            drop(request);
+            drop(call);
             return Err(AllocError);
         };
         let stamp = Stamp {
@@ -102,7 +102,7 @@ impl OneThread {
             pass: 0,
             call: turn,
         };
-        let reply = self.book.act(stamp, request)?;
+        let reply = self.book.act(stamp, call)?;
         self.turns = turn;
         Ok(Receipt { turn, reply })
     }
@@ -115,12 +115,20 @@ impl OneThread {
         ensures before { IsBefore (self.new.turns + 1) self.new.history }
         ensures settings { self.new.settings ≡ self.old.settings }
     {
-        let receipt = self.call(BookRequest::TakeWork { seat: 0 })?;
+        let call = BookCall {
+            seen: None,
+            request: BookRequest::TakeWork { seat: 0 },
+        };
+        let receipt = self.call(call)?;
         let ReplyBody::Work(order) = receipt.reply.body else {
             unreachable!()
         };
         let set = set_of::<Brand>(alloc, Blank::new(1), &mut self.room, order)?;
-        let brought = self.call(BookRequest::Finish { set })?;
+        let call = BookCall {
+            seen: None,
+            request: BookRequest::Finish { set },
+        };
+        let brought = self.call(call)?;
         drop(brought);
         Ok(())
     }

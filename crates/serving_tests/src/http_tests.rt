@@ -6,7 +6,7 @@ use bcf_viewpoints::ViewPart;
 use bim_model::{Author, Bytes, Items, Mode, Moment, Text};
 use book_history::{BookFault, BookReply, BookRequest, Horizon, ReplyBody, Wanted};
 use clash_rules::RuleFault;
-use http_frame::{FrameFault, HttpRequest};
+use http_frame::{FrameFault, HttpRequest, TurnField};
 use http_routes::{QueryName, RoutePath, Routes};
 use std::alloc::{AllocError, Global};
 use std::process::Abort;
@@ -16,6 +16,7 @@ fn request(
     alloc: Global,
     method: &str,
     target: &str,
+    seen: TurnField,
     body: &str,
 ) -> Result<HttpRequest, AllocError> {
     Ok(HttpRequest {
@@ -25,18 +26,18 @@ fn request(
         user: Text::of(alloc, "anna")?,
         close: false,
         encoded: false,
+        seen,
         body: Items::from_vec(body.as_bytes().to_vec(alloc)?),
     })
 }
 
-// What a request asks for at 2024-05-01T12:00:00Z, and what its response needs of it.
-fn asked_for(
+// What a request with this turn asks for at 2024-05-01T12:00:00Z, and what its response needs of it.
+fn asked_above(
     alloc: Global,
-    method: &str,
-    target: &str,
-    body: &str,
+    seen: TurnField,
+    (method, target, body): (&str, &str, &str),
 ) -> Result<(ReplyKind, Result<Action, Refusal>), Fail> {
-    let request = request(alloc, method, target, body)?;
+    let request = request(alloc, method, target, seen, body)?;
     match Routes::new(alloc) {
         Ok(routes) => {
             let asked = asked_of(alloc, &routes, request, 1_714_564_800);
@@ -48,6 +49,16 @@ fn asked_for(
             Err(Fail::from(error))
         }
     }
+}
+
+// The same of one that gives no turn.
+fn asked_for(
+    alloc: Global,
+    method: &str,
+    target: &str,
+    body: &str,
+) -> Result<(ReplyKind, Result<Action, Refusal>), Fail> {
+    asked_above(alloc, TurnField::Absent, (method, target, body))
 }
 
 // What the response to a request without a body needs of it.
@@ -375,6 +386,52 @@ fn bad_targets_are_refused(rt: HostRuntime) -> Result<(), Fail> {
         ("HEAD", target, ""),
         RequestFault::Method { path },
     )
+}
+
+// A request with a bad turn is refused so.
+fn refuses_turn(
+    rt: &impl Abort,
+    alloc: Global,
+    request: (&str, &str, &str),
+    wanted: RequestFault,
+) -> Result<(), Fail> {
+    let (_, asked) = asked_above(alloc, TurnField::Bad, request)?;
+    let is_refused = is_refused(&asked, &wanted);
+    drop(asked);
+    drop(wanted);
+    assert!(rt; is_refused);
+    Ok(())
+}
+
+#[test]
+fn a_bad_turn_is_judged_behind_the_query_and_before_the_body(rt: HostRuntime) -> Result<(), Fail> {
+    let alloc = rt.alloc();
+    let topics = "/bcf/3.0/projects/00000001-0000-8000-8000-000000000000/topics";
+    for request in [
+        ("GET", topics, ""),
+        ("POST", topics, "["),
+        ("POST", topics, "{}"),
+    ] {
+        refuses_turn(&rt, alloc, request, RequestFault::BadTurn)?;
+    }
+    refuses_turn(&rt, alloc, ("GET", "/a", ""), RequestFault::NoRoute)?;
+    let path = RoutePath::Topics;
+    refuses_turn(
+        &rt,
+        alloc,
+        ("PUT", topics, "["),
+        RequestFault::Method { path },
+    )?;
+    let target = "/coord/1/projects/00000001-0000-8000-8000-000000000000/models/m?grid=";
+    let name = QueryName::Grid;
+    refuses_turn(
+        &rt,
+        alloc,
+        ("PUT", target, ""),
+        RequestFault::Query { name },
+    )?;
+    let target = "/coord/1/projects/00000001-0000-8000-8000-000000000000/models/m";
+    refuses_turn(&rt, alloc, ("PUT", target, ""), RequestFault::BadTurn)
 }
 
 fn pipe(alloc: Global) -> Result<Topic, AllocError> {

@@ -3,8 +3,8 @@ use bim_model::{Many, Rules, Shared, Snapshot, UploadFault};
 use clash_rules::RuleFault;
 use coord_json::{changed_out, pending_out, version_out};
 use error_json::{
-    error_full, error_newest, error_out, error_place, error_store, error_version, rule_fault_out,
-    upload_fault_out,
+    error_full, error_newest, error_out, error_place, error_store, error_turn, error_version,
+    rule_fault_out, upload_fault_out,
 };
 use serde_json::Value;
 use std::alloc::{AllocError, Global};
@@ -33,6 +33,9 @@ fn errors_of_the_book_are_written(rt: HostRuntime) -> Result<(), Fail> {
     is_written(&rt, alloc, tree, wanted)?;
     let tree = pending_out(alloc, 1, 2)?;
     is_written(&rt, alloc, tree, r#"{"left":1,"version":2}"#)?;
+    let tree = error_turn(alloc, "K13", "TurnAhead", 99, 1)?;
+    let wanted = r#"{"code":"K13","given":99,"message":"K13 TurnAhead","turn":1}"#;
+    is_written(&rt, alloc, tree, wanted)?;
     Ok(())
 }
 

@@ -5,7 +5,7 @@ use Rattle.bim_io.specs.Causes.{Rose}
 use Rattle.bim_io.specs.StreamViews.{SourceSeen, SinkSeen, Outside, SourceGives, SinkTakes}
 use Rattle.book_history.specs.declared.limits.Settings.{Settings}
 use Rattle.book_turn.specs.declared.call_fault.CallFault.{CallFault}
-use Rattle.book_history.specs.declared.requests.BookRequest.{BookRequest}
+use Rattle.book_history.specs.declared.requests.BookCall.{BookCall}
 use Rattle.book_history.specs.Runs.{Step}
 use Rattle.book_passes.specs.Lessons.{CallerSeen}
 use Rattle.bim_session.specs.declared.notes.Notes.{Notes}
@@ -57,7 +57,7 @@ StopsAnswering sink sink' talk receipt waiting e =
     × (e ≡ end.WriteFault talk.served) × WritesLess sink sink' bytes)
 
 -- the book was called for the request that waits, and its response written; or that ended the session
-abbrev pub Called : Settings → Going → BookRequest → SinkSeen → SinkSeen → TalkState → CallerSeen → AfterStep
+abbrev pub Called : Settings → Going → BookCall → SinkSeen → SinkSeen → TalkState → CallerSeen → AfterStep
     → TalkState → CallerSeen → Type 0
 Called settings goes call sink sink' talk server Again talk' server' =
     (waiting : Waiting) × (talk.waits ≡ Some waiting)

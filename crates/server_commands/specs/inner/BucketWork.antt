@@ -4,13 +4,14 @@ use Rattle.bucket_check.specs.ClashSets.{SetValue}
 use Rattle.book_history.specs.declared.requests.BookRequest.TheVariants.{TakeWork, Finish}
 use Rattle.book_history.specs.declared.replies.ReplyBody.TheVariants.{Work}
 use Rattle.book_history.specs.Orders.{OrderValue}
-use Rattle.book_history.specs.Requests.{reply_of}
+use Rattle.book_history.specs.Requests.{without_turn, reply_of}
 use Rattle.bim_session.specs.Works.{IsFoundFor, IsEnough, IsMore}
 use Rattle.server_commands.specs.inner.Turns.{ServerState, with_turn, stamp_of, left_of}
 
 -- the next turn gives this bucket out
 abbrev pub GivesOut : ServerState → OrderValue → Type 0
-GivesOut s order = (reply_of s.settings s.history (stamp_of (s.turns + 1)) (TakeWork 0)).body ≡ Work order
+GivesOut s order =
+    (reply_of s.settings s.history (stamp_of (s.turns + 1)) (without_turn (TakeWork 0))).body ≡ Work order
 
 -- a bucket is given out at the next turn, and its set is brought at the turn after that
 pub record WorksBucket (old new : ServerState) : Type 0 where
@@ -18,12 +19,13 @@ pub record WorksBucket (old new : ServerState) : Type 0 where
   pub set : SetValue
   pub given : GivesOut old order
   pub found : IsFoundFor order set
-  pub new_is : new ≡ with_turn (Finish set) (with_turn (TakeWork 0) old)
+  pub new_is : new ≡ with_turn (without_turn (Finish set)) (with_turn (without_turn (TakeWork 0)) old)
 
 -- nothing was done of that, or the bucket was given out alone
 abbrev pub WorksPart : ServerState → ServerState → Type 0
 WorksPart old new =
-    (new ≡ old) ⊎ ((order : OrderValue) × GivesOut old order × (new ≡ with_turn (TakeWork 0) old))
+    (new ≡ old)
+    ⊎ ((order : OrderValue) × GivesOut old order × (new ≡ with_turn (without_turn (TakeWork 0)) old))
 
 -- so many buckets are worked, one after the other
 abbrev pub WorksTimes : ServerState → ℕ → ServerState → Type 0

@@ -36,4 +36,4 @@ returns-in-Err-clause-step g c =
 pub call_book-requires-clause-none : goal.call_book-requires-clause-none
 call_book-requires-clause-none g c =
     let callable = rw c.in-Ok-Call.field-0-is at c.in-Ok-Call.ensures.callable in
-    λ set e. callable set (ap Call e)
+    callable

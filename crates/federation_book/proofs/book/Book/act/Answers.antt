@@ -1,57 +1,28 @@
-use Rattle.std.proofs.Common.{◌≡◌, ◌++◌, ◌∙◌, List, length, sym, ap, ap₂, subst}
-use Rattle.clash_publish.specs.declared.horizon.Horizon.{Horizon}
-use Rattle.book_history.specs.declared.changes.Entry.{Entry}
-use Rattle.book_history.specs.declared.limits.Settings.{Settings}
+use Rattle.std.proofs.Common.{◌≡◌, ◌++◌, ◌∙◌, refl, sym, ap, append-nil, subst}
+use Rattle.std.specs.Prelude.{IfOk, OnOk}
 use Rattle.book_history.specs.declared.replies.BookReply.{BookReply}
-use Rattle.book_history.specs.declared.replies.ReplyBody.{ReplyBody}
-use Rattle.book_history.specs.History.{IsBefore, horizon_of}
-use Rattle.book_history.specs.Legal.{IsLegal}
-use Rattle.book_history.specs.Requests.{BookState, added_by, body_of, outcome_of}
-use Rattle.federation_book.proofs.Acting.{after_call, after_none, on_err}
+use Rattle.book_history.proofs.Ahead.{ahead_adds, ahead_told, below_adds, below_told}
+use Rattle.federation_book.proofs.Acting.{after_none}
 use Rattle.federation_book.proofs.book.Book.act.Goals as goal
 
-pub act_on-requires-clause-kept : goal.act_on-requires-clause-kept
-act_on-requires-clause-kept c = c.self.invariant
+pub returns-in-Some-clause-reply : goal.returns-in-Some-clause-reply
+returns-in-Some-clause-reply c =
+    c.refusal.ensures ∙ sym (ahead_told c.args.self.now.settings c.args.self.now.journal c.args.stamp c.args.call c.in-Some.fault (sym c.ahead.ensures ∙ c.in-Some.is))
 
-pub act_on-requires-clause-after : goal.act_on-requires-clause-after
-act_on-requires-clause-after c = subst (IsBefore c.args.stamp.turn) (sym (ap (λ (b : BookState). b.journal) c.self.view_is)) c.requires.after
+pub returns-in-Some-clause-added : goal.returns-in-Some-clause-added
+returns-in-Some-clause-added c =
+    let h = c.args.self.now.journal in
+    sym (append-nil h) ∙ ap (λ es. h ++ es) (sym (ahead_adds c.args.self.now.settings h c.args.stamp c.args.call c.in-Some.fault (sym c.ahead.ensures ∙ c.in-Some.is)))
 
-pub act_on-requires-clause-legal : goal.act_on-requires-clause-legal
-act_on-requires-clause-legal c = subst (λ (b : BookState). IsLegal b.settings b.journal c.args.request) (sym c.self.view_is) c.requires.legal
+pub returns-in-Some-clause-after : goal.returns-in-Some-clause-after
+returns-in-Some-clause-after c = after_none c.args.stamp.turn c.args.self.now.journal c.args.self.now.journal c.requires.after refl
 
-pub invariant_of-self : goal.invariant_of-self
-invariant_of-self c = c.act_on.ensures.kept
+pub returns-in-None-clause-reply : goal.returns-in-None-clause-reply
+returns-in-None-clause-reply c =
+    subst (λ (r : BookReply). IfOk c.answer.result (λ reply. reply ≡ r))
+    (sym (below_told c.args.self.now.settings c.args.self.now.journal c.args.stamp c.args.call (sym c.ahead.ensures ∙ c.in-None.is))) c.answer.ensures.reply
 
-pub returns-in_err-body-clause-settings : goal.returns-in_err-body-clause-settings
-returns-in_err-body-clause-settings c = c.act_on.ensures.settings ∙ ap (λ (b : BookState). b.settings) c.self.view_is
-
-pub returns-in_err-body-clause-after : goal.returns-in_err-body-clause-after
-returns-in_err-body-clause-after c =
-    after_none c.args.stamp.turn c.args.self.now.journal c.act_on.new.state.entries.items c.requires.after (c.in_err-body.ensures.err ∙ ap (λ (b : BookState). b.journal) c.self.view_is)
-
-pub returns-in_err-body-clause-err : goal.returns-in_err-body-clause-err
-returns-in_err-body-clause-err c =
-    on_err c.from_residual.result _
-    (ap₂ (λ (s : Settings) (j : List Entry). (let r : BookState = record { settings = s; journal = j } in r)) c.act_on.ensures.settings c.in_err-body.ensures.err ∙ c.self.view_is)
-
-pub invariant_of-self-2 : goal.invariant_of-self-2
-invariant_of-self-2 c = c.act_on.ensures.kept
-
-pub returns-clause-added : goal.returns-clause-added
-returns-clause-added c =
-    subst (λ (b : BookState). c.act_on.new.state.entries.items ≡ b.journal ++ added_by b.settings b.journal c.args.stamp c.args.request) c.self.view_is c.in_ok-body.ensures.done.added
-
-pub returns-clause-settings : goal.returns-clause-settings
-returns-clause-settings c = c.act_on.ensures.settings ∙ ap (λ (b : BookState). b.settings) c.self.view_is
-
-pub returns-clause-reply : goal.returns-clause-reply
-returns-clause-reply c =
-    let body = subst (λ (b : BookState). c.in_ok-body.body ≡ body_of b.journal (outcome_of b.settings b.journal c.args.request)) c.self.view_is c.in_ok-body.ensures.done.reply in
-    let added = subst (λ (b : BookState). c.act_on.new.state.entries.items ≡ b.journal ++ added_by b.settings b.journal c.args.stamp c.args.request) c.self.view_is c.in_ok-body.ensures.done.added in
-    let projects : length c.act_on.new.state.projects.items ≡ c.args.self.now.settings.projects = ap (λ (s : Settings). s.projects) (c.act_on.ensures.settings ∙ ap (λ (b : BookState). b.settings) c.self.view_is) in
-    ap₂ (λ (b : ReplyBody) (h : Horizon). (let r : BookReply = record { body = b; horizon = h } in r)) body (c.horizon.ensures ∙ ap₂ horizon_of projects added)
-
-pub returns-clause-after : goal.returns-clause-after
-returns-clause-after c =
-    after_call c.args.self.now.settings c.args.self.now.journal c.act_on.new.state.entries.items c.args.stamp c.args.request c.requires.after
-    (subst (λ (b : BookState). c.act_on.new.state.entries.items ≡ b.journal ++ added_by b.settings b.journal c.args.stamp c.args.request) c.self.view_is c.in_ok-body.ensures.done.added)
+pub returns-in-None-clause-added : goal.returns-in-None-clause-added
+returns-in-None-clause-added c =
+    subst (λ es. OnOk c.answer.result (c.answer.new.self.journal ≡ c.args.self.now.journal ++ es))
+    (sym (below_adds c.args.self.now.settings c.args.self.now.journal c.args.stamp c.args.call (sym c.ahead.ensures ∙ c.in-None.is))) c.answer.ensures.added

@@ -8,5 +8,5 @@ returns-clause-receipt c =
     let own : ServerState = record { settings = c.self.inside.book.settings; history = c.self.inside.book.journal; turns = c.self.inside.turns } in
     let next : c.in-Some.turn ≡ c.self.inside.turns + 1 = omega arith in
     rw (← c.self.view_is)
-    (calls_ok c.args.request own c.act.new.self.settings c.act.new.self.journal c.in-Some.turn c.in_ok-reply.reply next
+    (calls_ok c.args.call own c.act.new.self.settings c.act.new.self.journal c.in-Some.turn c.in_ok-reply.reply next
     c.in_ok-reply.ensures.reply c.in_ok-reply.ensures.added c.in_ok-reply.ensures.settings)

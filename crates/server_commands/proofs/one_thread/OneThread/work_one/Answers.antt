@@ -1,6 +1,7 @@
 use Rattle.std.proofs.Common.{◌≡◌, sym, ◌∙◌, ap, subst}
 use Rattle.book_history.specs.declared.replies.BookReply.{BookReply}
 use Rattle.book_history.specs.declared.requests.BookRequest.TheVariants.{TakeWork, Finish}
+use Rattle.book_history.specs.Requests.{without_turn}
 use Rattle.book_history.specs.Legal.{IsLegal}
 use Rattle.bim_session.specs.Works.{IsFoundFor}
 use Rattle.server_commands.specs.inner.Turns.{ServerState, with_turn}
@@ -20,5 +21,5 @@ call-requires-2 c =
     let given : GivesOut s c.in-Work.order = sym (ap (λ (r : BookReply). r.body) c.in_ok-receipt.ensures.receipt.1) ∙ c.in-Work.is in
     let found : IsFoundFor c.in-Work.order c.in_ok-set.set = subst (λ o. IsFoundFor o c.in_ok-set.set) c.in-Work.order-is c.in_ok-set.ensures.set in
     let legal = set_legal s c.in-Work.order c.in_ok-set.set given found c.in_ok-set.ensures.bucket in
-    let same : with_turn (TakeWork 0) s ≡ whole = sym c.in_ok-receipt.ensures.receipt.2 ∙ sym c.self.view_is in
+    let same : with_turn (without_turn (TakeWork 0)) s ≡ whole = sym c.in_ok-receipt.ensures.receipt.2 ∙ sym c.self.view_is in
     subst (λ (x : ServerState). IsLegal x.settings x.history (Finish c.in_ok-set.set)) same legal

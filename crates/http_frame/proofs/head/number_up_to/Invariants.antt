@@ -1,9 +1,0 @@
-use Rattle.std.proofs.Common.{◌≡◌, ◌≤◌, take}
-use Rattle.std.specs.Str.Parse.{digits_value}
-use Rattle.http_frame.proofs.head.number_up_to.Given as goal
-
-abbrev pub invariant-loop-b : goal.invariant-loop-b
-invariant-loop-b l = record {
-  is : l.value ≡ digits_value 10 (take l.b-index l.text);
-  small : l.value ≤ l.most;
-}
