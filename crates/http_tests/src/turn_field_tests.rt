@@ -173,6 +173,12 @@ fn a_turn_is_one_field_of_1_to_15_digits(rt: HostRuntime) -> Result<(), Fail> {
     for (lines, wanted) in LINES.iter() {
         head_gives(&rt, alloc, lines, wanted)?;
     }
+    Ok(())
+}
+
+#[test]
+fn a_turn_of_400_digits_is_bad(rt: HostRuntime) -> Result<(), Fail> {
+    let alloc = rt.alloc();
     let nines = "9".repeat(alloc, 400)?;
     let tight = format!(in alloc; "X-Book-Turn:{nines}\r\n")?;
     head_gives(&rt, alloc, tight.as_str(), "bad;")?;
