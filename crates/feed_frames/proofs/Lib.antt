@@ -1,0 +1,5 @@
+pub mod Formats
+pub mod Fields
+pub mod Parts
+pub mod Changes
+pub mod Frames
