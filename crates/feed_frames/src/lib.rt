@@ -8,6 +8,8 @@ mod counts;
 mod decoding;
 mod encoding;
 mod field;
+mod frame_error;
+mod frames;
 mod laws;
 mod model_fields;
 mod place_fields;
@@ -19,4 +21,6 @@ mod view_fields;
 
 pub use decoding::decode;
 pub use encoding::encode;
-pub use laws::frames_are_apart;
+pub use frame_error::FrameError;
+pub use frames::Frames;
+pub use laws::{frames_are_apart, streams_split_once};
