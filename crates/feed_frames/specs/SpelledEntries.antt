@@ -1,7 +1,7 @@
 -- Which entries a frame can spell: those whose numbers and counts fit their bytes, and whose parts keep the
 -- rules of their types. Of a part that is made of others it is said of each, in their order.
-use Rattle.std.specs.Prelude.{ℕ, ℤ, ◌<◌, ◌≤◌, ◌^◌, List, length, All, IfSome}
-use Rattle.std.specs.Int.{w32, FitsSigned}
+use Rattle.std.specs.Prelude.{ℕ, ℤ, ◌<◌, ◌≤◌, ◌^◌, List, length, All, IfSome, FitsSigned}
+use Rattle.std.specs.Int.{w32}
 use Rattle.std.specs.Str.{IsUtf8}
 use Rattle.bim_model.specs.Guids.{IsGuid}
 use Rattle.bim_model.specs.Models.{IsModel}

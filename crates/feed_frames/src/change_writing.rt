@@ -3,7 +3,7 @@ ghost use Rattle.std.specs.Prelude.{◌≡◌, ◌++◌, OnOk};
 ghost use Rattle.book_history.specs.declared.changes.Change.{Change};
 ghost use Rattle.feed_frames.specs.EntryBytes.{kind_of, fields_of, change_bytes};
 
-use crate::counts::put_list;
+use crate::plain_fields::put_list;
 use crate::field::Field;
 use bcf_topics::{CommentBody, TopicBody};
 use bcf_viewpoints::CheckedBody;

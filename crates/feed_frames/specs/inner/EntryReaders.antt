@@ -35,7 +35,8 @@ use Rattle.feed_frames.specs.inner.FieldReaders.{long_at, short_at, signed_at, t
 -- an identifier
 unfoldable pub guid_at : Reader Guid
 guid_at bytes =
-    made_at (λ chars. record { chars = chars }) (checked_at (λ chars. list_all is_guid_char chars) (cut_at 22))
+    made_at (λ chars. record { chars = chars })
+    (checked_at (λ chars. list_all is_guid_char chars) (cut_at 22))
     bytes
 
 -- a moment
@@ -218,55 +219,67 @@ source_at = both_at author_at long_at
 abbrev pub named_elements_at : Reader (List ℕ × List Element)
 named_elements_at = both_at text_at (counted_at element_at)
 
--- the fields of each kind of change
+-- the fields of an upload
 unfoldable pub upload_at : Reader Change
 upload_at bytes = made_at (λ p. change.Upload p.0 p.1) named_elements_at bytes
 
+-- the fields of a removal
 unfoldable pub remove_at : Reader Change
 remove_at bytes = made_at (λ name. change.Remove name) text_at bytes
 
+-- the fields of new rules
 unfoldable pub set_rules_at : Reader Change
 set_rules_at bytes = made_at (λ p. change.SetRules p.0 p.1) (both_at rules_at long_at) bytes
 
+-- the fields of a bucket that is done
 unfoldable pub bucket_done_at : Reader Change
 bucket_done_at bytes = made_at (λ p. change.BucketDone p.0 p.1) (both_at long_at cell_at) bytes
 
+-- the fields of a new topic
 unfoldable pub post_topic_at : Reader Change
 post_topic_at bytes =
     made_at (λ p. change.PostTopic p.0 p.1.0 p.1.1) (both_at topic_at source_at) bytes
 
+-- the fields of a topic that is replaced
 unfoldable pub put_topic_at : Reader Change
 put_topic_at bytes =
     made_at (λ p. change.PutTopic p.0 p.1.0 p.1.1.0 p.1.1.1)
     (both_at long_at (both_at topic_at source_at))
     bytes
 
+-- the fields of a topic that goes
 unfoldable pub delete_topic_at : Reader Change
 delete_topic_at bytes = made_at (λ topic. change.DeleteTopic topic) long_at bytes
 
+-- the fields of a new comment
 unfoldable pub post_comment_at : Reader Change
 post_comment_at bytes =
     made_at (λ p. change.PostComment p.0 p.1.0 p.1.1.0 p.1.1.1)
     (both_at long_at (both_at comment_at source_at))
     bytes
 
+-- the fields of a comment that is replaced
 unfoldable pub put_comment_at : Reader Change
 put_comment_at bytes =
     made_at (λ p. change.PutComment p.0 p.1.0 p.1.1.0 p.1.1.1.0 p.1.1.1.1)
     (both_at long_at (both_at long_at (both_at comment_at source_at)))
     bytes
 
+-- the fields of a comment that goes
 unfoldable pub delete_comment_at : Reader Change
 delete_comment_at bytes =
     made_at (λ p. change.DeleteComment p.0 p.1) (both_at long_at long_at) bytes
 
+-- the fields of a new viewpoint
 unfoldable pub post_view_at : Reader Change
 post_view_at bytes =
     made_at (λ p. change.PostView p.0 p.1.0 p.1.1) (both_at long_at (both_at view_at long_at)) bytes
 
+-- the fields of a viewpoint that goes
 unfoldable pub delete_view_at : Reader Change
 delete_view_at bytes = made_at (λ p. change.DeleteView p.0 p.1) (both_at long_at long_at) bytes
 
+-- the fields of a topic of a clash
 unfoldable pub clash_topic_at : Reader Change
 clash_topic_at bytes =
     made_at (λ p. change.ClashTopic p.0 p.1.0 p.1.1.0 p.1.1.1)

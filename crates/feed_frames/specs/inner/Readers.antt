@@ -1,5 +1,5 @@
 -- Reading from left to right: what stands at the front of the bytes, and the bytes behind it.
-use Rattle.std.specs.Prelude.{◌≡◌, ℕ, zero, suc, ◌==◌, Bool, cond, List, [], ◌∷◌, length, take, drop, nat_le, Option, Some, None, Result, Ok, Err}
+use Rattle.std.specs.Prelude.{◌≡◌, ℕ, zero, suc, ◌==◌, Bool, cond, List, [], ◌∷◌, length, take, drop, nat_le, option_and_then, Option, Some, None, Result, Ok, Err}
 use Rattle.feed_frames.specs.declared.read_error.ReadError.{ReadError}
 use Rattle.feed_frames.specs.declared.read_error.ReadError.TheVariants.{NotSpelled, Memory}
 
@@ -9,8 +9,7 @@ Reader A = List ℕ → Option (A × List ℕ)
 
 -- the next step, where the first found something
 abbrev pub option_then : {A B : Type 0} → Option A → (A → Option B) → Option B
-option_then None f = None
-option_then (Some x) f = f x
+option_then o f = option_and_then f o
 
 -- no bytes
 abbrev pub nothing_at : Reader (Unit {0})
@@ -75,6 +74,7 @@ abbrev pub Refuses : {A : Type 0} → (A → Type 0) → ReadError → Option (A
 Refuses good Memory read = Unit {0}
 Refuses {A} good NotSpelled read = (x : A) (rest : List ℕ) → read ≡ Some (x, rest) → good x → ⊥
 
+-- what a call returned and left is what is read, and meets the condition; or nothing that does is read
 abbrev pub Admits : {A : Type 0} → (A → Type 0) → Result A ReadError → List ℕ → Option (A × List ℕ) → Type 0
 Admits good (Ok x) rest read = (read ≡ Some (x, rest)) × good x
 Admits good (Err e) rest read = Refuses good e read

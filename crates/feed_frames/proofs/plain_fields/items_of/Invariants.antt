@@ -1,7 +1,7 @@
 use Rattle.std.proofs.Common.{◌≡◌, ◌-◌}
 use Rattle.feed_frames.specs.inner.Readers.{items_at}
 use Rattle.feed_frames.proofs.Loops.{with_front}
-use Rattle.feed_frames.proofs.counts.items_of.Given as goal
+use Rattle.feed_frames.proofs.plain_fields.items_of.Given as goal
 
 abbrev pub invariant-loop : goal.invariant-loop
 invariant-loop g l =

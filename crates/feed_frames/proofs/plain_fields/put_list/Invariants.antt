@@ -1,7 +1,7 @@
 use Rattle.std.proofs.Common.{◌≡◌, ◌++◌, length, take}
 use Rattle.std.specs.List.{flat_map}
 use Rattle.feed_frames.specs.FieldBytes.{long_bytes}
-use Rattle.feed_frames.proofs.counts.put_list.Given as goal
+use Rattle.feed_frames.proofs.plain_fields.put_list.Given as goal
 
 abbrev pub invariant-loop-item : goal.invariant-loop-item
 invariant-loop-item g l =
