@@ -88,8 +88,8 @@ record NoModels (kinds : Kinds Change) : Type 0 where
 no_models : NoModels no_kind
 no_models = record { none = λ k bytes x rest e. absurd cc }
 
-modelless : {F : Type 0} {r : Reader F} {kinds : Kinds Change} → (n : ℕ) (into : F → Change) → ((f : F) → UploadsModel (into f)) → NoModels kinds → NoModels (kind_at n (made_at into r) kinds)
-modelless {F} {r} {kinds} n into none K = record {
+modelless : {F : Type 0} (r : Reader F) {kinds : Kinds Change} → (n : ℕ) (into : F → Change) → ((f : F) → UploadsModel (into f)) → NoModels kinds → NoModels (kind_at n (made_at into r) kinds)
+modelless {F} r {kinds} n into none K = record {
   none = λ k bytes x rest e.
     elim (chosen (eqb k n) (made_at into r bytes) (kinds k bytes) (Some (x, rest)) e) [
       | inl p ↦
@@ -103,18 +103,18 @@ modelless {F} {r} {kinds} n into none K = record {
 others_modelless : NoModels other_kinds
 unfolding other_kinds remove_at set_rules_at bucket_done_at post_topic_at put_topic_at delete_topic_at post_comment_at put_comment_at delete_comment_at post_view_at delete_view_at clash_topic_at
 others_modelless =
-    (modelless 2 (λ p. change.Remove p) (λ _. tt)
-    (modelless 3 (λ p. change.SetRules p.0 p.1) (λ _. tt)
-    (modelless 4 (λ p. change.BucketDone p.0 p.1) (λ _. tt)
-    (modelless 5 (λ p. change.PostTopic p.0 p.1.0 p.1.1) (λ _. tt)
-    (modelless 6 (λ p. change.PutTopic p.0 p.1.0 p.1.1.0 p.1.1.1) (λ _. tt)
-    (modelless 7 (λ p. change.DeleteTopic p) (λ _. tt)
-    (modelless 8 (λ p. change.PostComment p.0 p.1.0 p.1.1.0 p.1.1.1) (λ _. tt)
-    (modelless 9 (λ p. change.PutComment p.0 p.1.0 p.1.1.0 p.1.1.1.0 p.1.1.1.1) (λ _. tt)
-    (modelless 10 (λ p. change.DeleteComment p.0 p.1) (λ _. tt)
-    (modelless 11 (λ p. change.PostView p.0 p.1.0 p.1.1) (λ _. tt)
-    (modelless 12 (λ p. change.DeleteView p.0 p.1) (λ _. tt)
-    (modelless 13 (λ p. change.ClashTopic p.0 p.1.0 p.1.1.0 p.1.1.1) (λ _. tt)
+    (modelless _ 2 (λ p. change.Remove p) (λ _. tt)
+    (modelless _ 3 (λ p. change.SetRules p.0 p.1) (λ _. tt)
+    (modelless _ 4 (λ p. change.BucketDone p.0 p.1) (λ _. tt)
+    (modelless _ 5 (λ p. change.PostTopic p.0 p.1.0 p.1.1) (λ _. tt)
+    (modelless _ 6 (λ p. change.PutTopic p.0 p.1.0 p.1.1.0 p.1.1.1) (λ _. tt)
+    (modelless _ 7 (λ p. change.DeleteTopic p) (λ _. tt)
+    (modelless _ 8 (λ p. change.PostComment p.0 p.1.0 p.1.1.0 p.1.1.1) (λ _. tt)
+    (modelless _ 9 (λ p. change.PutComment p.0 p.1.0 p.1.1.0 p.1.1.1.0 p.1.1.1.1) (λ _. tt)
+    (modelless _ 10 (λ p. change.DeleteComment p.0 p.1) (λ _. tt)
+    (modelless _ 11 (λ p. change.PostView p.0 p.1.0 p.1.1) (λ _. tt)
+    (modelless _ 12 (λ p. change.DeleteView p.0 p.1) (λ _. tt)
+    (modelless _ 13 (λ p. change.ClashTopic p.0 p.1.0 p.1.1.0 p.1.1.1) (λ _. tt)
     no_models))))))))))))
 
 pub no_model_is_read : (k : ℕ) (bytes : List ℕ) (x : Change) (rest : List ℕ) → other_kinds k bytes ≡ Some (x, rest) → UploadsModel x

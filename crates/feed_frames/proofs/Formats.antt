@@ -98,8 +98,8 @@ pub both : {A B : Type 0} {r : Reader A} {s : A → List ℕ} {g : A → Type 0}
 both F G = record { takes = both_takes F G; again = both_again F G }
 
 -- what is made of a value
-made_takes : {A B : Type 0} {r : Reader A} {s : A → List ℕ} {g : A → Type 0} {h : B → Type 0} → IsFormat A r s g → (into : A → B) (out : B → A) → ((x : A) → g x → out (into x) ≡ x) → ((x : A) → g x → h (into x)) → (bytes : List ℕ) (y : B) (rest : List ℕ) → IsBytes bytes → made_at into r bytes ≡ Some (y, rest) → Takes bytes (s (out y)) rest × h y
-made_takes {A} {B} {r} {s} {g} {h} F into out left fit bytes y rest fits e =
+made_takes : {A B : Type 0} {r : Reader A} {s : A → List ℕ} {g : A → Type 0} (h : B → Type 0) → IsFormat A r s g → (into : A → B) (out : B → A) → ((x : A) → g x → out (into x) ≡ x) → ((x : A) → g x → h (into x)) → (bytes : List ℕ) (y : B) (rest : List ℕ) → IsBytes bytes → made_at into r bytes ≡ Some (y, rest) → Takes bytes (s (out y)) rest × h y
+made_takes {A} {B} {r} {s} {g} h F into out left fit bytes y rest fits e =
     let a = then_some (r bytes) (λ x. Some (into x.0, x.1)) (y, rest) e in
     let t = F.takes bytes a.0.0 a.0.1 fits a.1 in
     let back : Takes bytes (s (out (into a.0.0))) a.0.1 =
@@ -113,8 +113,8 @@ pub into_again : {A B : Type 0} {r : Reader A} {s : A → List ℕ} {g : A → T
 into_again F into x rest good = ap (λ o. option_then o (λ x. Some (into x.0, x.1))) (F.again x rest good)
 
 pub made : {A B : Type 0} {r : Reader A} {s : A → List ℕ} {g : A → Type 0} {h : B → Type 0} → IsFormat A r s g → (into : A → B) (out : B → A) → ((x : A) → g x → out (into x) ≡ x) → ((x : A) → g x → h (into x)) → ((y : B) → h y → into (out y) ≡ y) → ((y : B) → h y → g (out y)) → IsFormat B (made_at into r) (λ y. s (out y)) h
-made {A} {B} F into out left fit right fit_out = record {
-  takes = made_takes F into out left fit;
+made {A} {B} {r} {s} {g} {h} F into out left fit right fit_out = record {
+  takes = made_takes h F into out left fit;
   again = λ y rest good.
     into_again F into (out y) rest (fit_out y good)
     ∙ ap (λ (z : B). Some (z, rest)) (right y good);

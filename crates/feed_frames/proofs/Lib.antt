@@ -3,6 +3,6 @@ pub mod Loops
 pub mod Fields
 pub mod Parts
 pub mod Changes
-pub mod Frames
-pub mod Decoding
+pub mod Apart
+pub mod Payloads
 pub mod Admitted

@@ -191,11 +191,11 @@ distance =
     (λ x p. (omega arith, le-leb _ _ p))
 
 abbrev rule_kind_kind : RuleKind → ℕ
-rule_kind_kind (Clash distance) = 0
+rule_kind_kind (Clash d) = 0
 rule_kind_kind Ignore = 1
 
 abbrev rule_kind_fields : RuleKind → List ℕ
-rule_kind_fields (Clash distance) = short_bytes distance
+rule_kind_fields (Clash d) = short_bytes d
 rule_kind_fields Ignore = []
 
 rule_kind_reads : (k : RuleKind) (rest : List ℕ) → FitsRuleKind k → kind_at 0 (made_at (λ distance. Clash distance) distance_at) (kind_at 1 (made_at (λ _. Ignore) nothing_at) no_kind) (rule_kind_kind k) (rule_kind_fields k ++ rest) ≡ Some (k, rest)

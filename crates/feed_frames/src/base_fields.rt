@@ -16,15 +16,15 @@ impl Field for Text {
     ghost reading = { text_at };
 
     #[tactic(auto, unfolding(crate::specs::FieldBytes::text_bytes))]
-    fn put(&self, out: &mut Vec<u8>) -> Result<(), AllocError> {
+    fn write_to(&self, out: &mut Vec<u8>) -> Result<(), AllocError> {
         let bytes = self.as_str().as_bytes();
         let count = bytes.len() as u64;
-        count.put(out)?;
+        count.write_to(out)?;
         out.extend_from_slice(bytes)
     }
 
     #[tactic(auto, unfolding(crate::specs::inner::FieldReaders::text_at))]
-    fn take(alloc: Global, unread: &mut Unread) -> Result<Text, ReadError> {
+    fn read_from(alloc: Global, unread: &mut Unread) -> Result<Text, ReadError> {
         let count = unread.long()?;
         let bytes = unread.cut(count)?;
         match str::from_utf8(bytes) {
@@ -43,12 +43,12 @@ impl Field for Guid {
     ghost reading = { guid_at };
 
     #[tactic(auto, unfolding(crate::specs::EntryBytes::guid_bytes))]
-    fn put(&self, out: &mut Vec<u8>) -> Result<(), AllocError> {
+    fn write_to(&self, out: &mut Vec<u8>) -> Result<(), AllocError> {
         out.extend_from_slice(&self.chars)
     }
 
     #[tactic(auto, unfolding(crate::specs::inner::EntryReaders::guid_at))]
-    fn take(_: Global, unread: &mut Unread) -> Result<Guid, ReadError> {
+    fn read_from(_: Global, unread: &mut Unread) -> Result<Guid, ReadError> {
         let chars = unread.cut(22)?;
         match Guid::read(chars) {
             Some(guid) => Ok(guid),
@@ -62,13 +62,13 @@ impl Field for Moment {
 
     ghost reading = { moment_at };
 
-    fn put(&self, out: &mut Vec<u8>) -> Result<(), AllocError> {
+    fn write_to(&self, out: &mut Vec<u8>) -> Result<(), AllocError> {
         let seconds = self.seconds();
-        seconds.put(out)
+        seconds.write_to(out)
     }
 
     #[tactic(auto, unfolding(crate::specs::inner::EntryReaders::moment_at))]
-    fn take(_: Global, unread: &mut Unread) -> Result<Moment, ReadError> {
+    fn read_from(_: Global, unread: &mut Unread) -> Result<Moment, ReadError> {
         let seconds = unread.long()?;
         if seconds > Moment::LAST {
             return Err(ReadError::NotSpelled);
@@ -83,15 +83,15 @@ impl Field for Author {
     ghost reading = { author_at };
 
     #[tactic(auto, unfolding(crate::specs::EntryBytes::author_bytes))]
-    fn put(&self, out: &mut Vec<u8>) -> Result<(), AllocError> {
-        self.user.put(out)?;
-        self.moment.put(out)
+    fn write_to(&self, out: &mut Vec<u8>) -> Result<(), AllocError> {
+        self.user.write_to(out)?;
+        self.moment.write_to(out)
     }
 
     #[tactic(auto, unfolding(crate::specs::inner::EntryReaders::author_at))]
-    fn take(alloc: Global, unread: &mut Unread) -> Result<Author, ReadError> {
-        let user = Text::take(alloc, unread)?;
-        let moment = Moment::take(alloc, unread)?;
+    fn read_from(alloc: Global, unread: &mut Unread) -> Result<Author, ReadError> {
+        let user = Text::read_from(alloc, unread)?;
+        let moment = Moment::read_from(alloc, unread)?;
         Ok(Author { user, moment })
     }
 }

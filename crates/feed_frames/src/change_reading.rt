@@ -22,8 +22,8 @@ const UPLOAD: u8 = 1;
 fn take_elements(alloc: Global, unread: &mut Unread) -> Result<(Text, Items<Element>), ReadError>
     ensures { Gives result unread.new (named_elements_at unread.old) }
 {
-    let name = Text::take(alloc, unread)?;
-    let elements = Items::<Element>::take(alloc, unread)?;
+    let name = Text::read_from(alloc, unread)?;
+    let elements = Items::<Element>::read_from(alloc, unread)?;
     Ok((name, elements))
 }
 
@@ -45,7 +45,7 @@ fn take_upload(alloc: Global, unread: &mut Unread) -> Result<Change, ReadError>
 fn take_remove(alloc: Global, unread: &mut Unread) -> Result<Change, ReadError>
     ensures { Gives result unread.new (remove_at unread.old) }
 {
-    let name = Text::take(alloc, unread)?;
+    let name = Text::read_from(alloc, unread)?;
     Ok(Change::Remove { name })
 }
 
@@ -64,7 +64,7 @@ fn take_bucket_done(alloc: Global, unread: &mut Unread) -> Result<Change, ReadEr
     ensures { Gives result unread.new (bucket_done_at unread.old) }
 {
     let version = unread.long()?;
-    let cell = Cell::take(alloc, unread)?;
+    let cell = Cell::read_from(alloc, unread)?;
     Ok(Change::BucketDone { version, cell })
 }
 
@@ -72,8 +72,8 @@ fn take_bucket_done(alloc: Global, unread: &mut Unread) -> Result<Change, ReadEr
 fn take_post_topic(alloc: Global, unread: &mut Unread) -> Result<Change, ReadError>
     ensures { Gives result unread.new (post_topic_at unread.old) }
 {
-    let body = TopicBody::take(alloc, unread)?;
-    let author = Author::take(alloc, unread)?;
+    let body = TopicBody::read_from(alloc, unread)?;
+    let author = Author::read_from(alloc, unread)?;
     let weight = unread.long()?;
     Ok(Change::PostTopic { body, author, weight })
 }
@@ -83,8 +83,8 @@ fn take_put_topic(alloc: Global, unread: &mut Unread) -> Result<Change, ReadErro
     ensures { Gives result unread.new (put_topic_at unread.old) }
 {
     let topic = unread.long()?;
-    let body = TopicBody::take(alloc, unread)?;
-    let author = Author::take(alloc, unread)?;
+    let body = TopicBody::read_from(alloc, unread)?;
+    let author = Author::read_from(alloc, unread)?;
     let weight = unread.long()?;
     Ok(Change::PutTopic { topic, body, author, weight })
 }
@@ -102,8 +102,8 @@ fn take_post_comment(alloc: Global, unread: &mut Unread) -> Result<Change, ReadE
     ensures { Gives result unread.new (post_comment_at unread.old) }
 {
     let topic = unread.long()?;
-    let body = CommentBody::take(alloc, unread)?;
-    let author = Author::take(alloc, unread)?;
+    let body = CommentBody::read_from(alloc, unread)?;
+    let author = Author::read_from(alloc, unread)?;
     let weight = unread.long()?;
     Ok(Change::PostComment { topic, body, author, weight })
 }
@@ -114,8 +114,8 @@ fn take_put_comment(alloc: Global, unread: &mut Unread) -> Result<Change, ReadEr
 {
     let topic = unread.long()?;
     let comment = unread.long()?;
-    let body = CommentBody::take(alloc, unread)?;
-    let author = Author::take(alloc, unread)?;
+    let body = CommentBody::read_from(alloc, unread)?;
+    let author = Author::read_from(alloc, unread)?;
     let weight = unread.long()?;
     Ok(Change::PutComment { topic, comment, body, author, weight })
 }
@@ -154,7 +154,7 @@ fn take_clash_topic(alloc: Global, unread: &mut Unread) -> Result<Change, ReadEr
 {
     let version = unread.long()?;
     let place = unread.long()?;
-    let author = Author::take(alloc, unread)?;
+    let author = Author::read_from(alloc, unread)?;
     let weight = unread.long()?;
     Ok(Change::ClashTopic { version, place, author, weight })
 }

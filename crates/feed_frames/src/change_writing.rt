@@ -15,7 +15,7 @@ use std::alloc::AllocError;
 fn put_upload(name: &Text, model: &Model, out: &mut Vec<u8>) -> Result<(), AllocError>
     ensures { OnOk result (out.new.items ≡ out.old.items ++ fields_of (Change.Upload name.now model.now)) }
 {
-    name.put(out)?;
+    name.write_to(out)?;
     put_list(model.elements(), out)
 }
 
@@ -23,81 +23,81 @@ fn put_set_rules(rules: &Rules, weight: u64, out: &mut Vec<u8>) -> Result<(), Al
     ensures { OnOk result (out.new.items ≡ out.old.items ++ fields_of (Change.SetRules rules.now weight)) }
 {
     put_list(rules.list(), out)?;
-    weight.put(out)
+    weight.write_to(out)
 }
 
 fn put_bucket_done(version: u64, cell: Cell, out: &mut Vec<u8>) -> Result<(), AllocError>
     ensures { OnOk result (out.new.items ≡ out.old.items ++ fields_of (Change.BucketDone version cell)) }
 {
-    version.put(out)?;
-    cell.put(out)
+    version.write_to(out)?;
+    cell.write_to(out)
 }
 
 fn put_post_topic(body: &TopicBody, author: &Author, weight: u64, out: &mut Vec<u8>) -> Result<(), AllocError>
     ensures { OnOk result (out.new.items ≡ out.old.items ++ fields_of (Change.PostTopic body.now author.now weight)) }
 {
-    body.put(out)?;
-    author.put(out)?;
-    weight.put(out)
+    body.write_to(out)?;
+    author.write_to(out)?;
+    weight.write_to(out)
 }
 
 fn put_put_topic(topic: u64, body: &TopicBody, author: &Author, weight: u64, out: &mut Vec<u8>) -> Result<(), AllocError>
     ensures { OnOk result (out.new.items ≡ out.old.items ++ fields_of (Change.PutTopic topic body.now author.now weight)) }
 {
-    topic.put(out)?;
-    body.put(out)?;
-    author.put(out)?;
-    weight.put(out)
+    topic.write_to(out)?;
+    body.write_to(out)?;
+    author.write_to(out)?;
+    weight.write_to(out)
 }
 
 fn put_post_comment(topic: u64, body: &CommentBody, author: &Author, weight: u64, out: &mut Vec<u8>) -> Result<(), AllocError>
     ensures { OnOk result (out.new.items ≡ out.old.items ++ fields_of (Change.PostComment topic body.now author.now weight)) }
 {
-    topic.put(out)?;
-    body.put(out)?;
-    author.put(out)?;
-    weight.put(out)
+    topic.write_to(out)?;
+    body.write_to(out)?;
+    author.write_to(out)?;
+    weight.write_to(out)
 }
 
 fn put_put_comment(topic: u64, comment: u64, body: &CommentBody, author: &Author, weight: u64, out: &mut Vec<u8>) -> Result<(), AllocError>
     ensures { OnOk result (out.new.items ≡ out.old.items ++ fields_of (Change.PutComment topic comment body.now author.now weight)) }
 {
-    topic.put(out)?;
-    comment.put(out)?;
-    body.put(out)?;
-    author.put(out)?;
-    weight.put(out)
+    topic.write_to(out)?;
+    comment.write_to(out)?;
+    body.write_to(out)?;
+    author.write_to(out)?;
+    weight.write_to(out)
 }
 
 fn put_delete_comment(topic: u64, comment: u64, out: &mut Vec<u8>) -> Result<(), AllocError>
     ensures { OnOk result (out.new.items ≡ out.old.items ++ fields_of (Change.DeleteComment topic comment)) }
 {
-    topic.put(out)?;
-    comment.put(out)
+    topic.write_to(out)?;
+    comment.write_to(out)
 }
 
 fn put_post_view(topic: u64, body: &CheckedBody, weight: u64, out: &mut Vec<u8>) -> Result<(), AllocError>
     ensures { OnOk result (out.new.items ≡ out.old.items ++ fields_of (Change.PostView topic body.now weight)) }
 {
-    topic.put(out)?;
-    body.get().put(out)?;
-    weight.put(out)
+    topic.write_to(out)?;
+    body.get().write_to(out)?;
+    weight.write_to(out)
 }
 
 fn put_delete_view(topic: u64, view: u64, out: &mut Vec<u8>) -> Result<(), AllocError>
     ensures { OnOk result (out.new.items ≡ out.old.items ++ fields_of (Change.DeleteView topic view)) }
 {
-    topic.put(out)?;
-    view.put(out)
+    topic.write_to(out)?;
+    view.write_to(out)
 }
 
 fn put_clash_topic(version: u64, place: u64, author: &Author, weight: u64, out: &mut Vec<u8>) -> Result<(), AllocError>
     ensures { OnOk result (out.new.items ≡ out.old.items ++ fields_of (Change.ClashTopic version place author.now weight)) }
 {
-    version.put(out)?;
-    place.put(out)?;
-    author.put(out)?;
-    weight.put(out)
+    version.write_to(out)?;
+    place.write_to(out)?;
+    author.write_to(out)?;
+    weight.write_to(out)
 }
 
 // The byte of its kind.
@@ -127,12 +127,12 @@ fn put_fields(change: &Change, out: &mut Vec<u8>) -> Result<(), AllocError>
 {
     match change {
         Change::Upload { name, model } => put_upload(name, model.get(), out),
-        Change::Remove { name } => name.put(out),
+        Change::Remove { name } => name.write_to(out),
         Change::SetRules { rules, weight } => put_set_rules(rules.get(), *weight, out),
         Change::BucketDone { version, cell } => put_bucket_done(*version, *cell, out),
         Change::PostTopic { body, author, weight } => put_post_topic(body, author, *weight, out),
         Change::PutTopic { topic, body, author, weight } => put_put_topic(*topic, body, author, *weight, out),
-        Change::DeleteTopic { topic } => topic.put(out),
+        Change::DeleteTopic { topic } => topic.write_to(out),
         Change::PostComment { topic, body, author, weight } => put_post_comment(*topic, body, author, *weight, out),
         Change::PutComment { topic, comment, body, author, weight } => put_put_comment(*topic, *comment, body, author, *weight, out),
         Change::DeleteComment { topic, comment } => put_delete_comment(*topic, *comment, out),

@@ -17,7 +17,7 @@ use std::alloc::{AllocError, Global};
 fn take_entry(alloc: Global, unread: &mut Unread) -> Result<Entry, ReadError>
     ensures { Admits (λ (e : Entry). UploadsModel e.change) result unread.new (entry_at unread.old) }
 {
-    let stamp = Stamp::take(alloc, unread)?;
+    let stamp = Stamp::read_from(alloc, unread)?;
     let project = unread.short()?;
     let change = take_change(alloc, unread)?;
     Ok(Entry {

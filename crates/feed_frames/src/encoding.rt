@@ -13,8 +13,8 @@ use std::alloc::{AllocError, Global};
 fn put_payload(entry: &Entry, out: &mut Vec<u8>) -> Result<(), AllocError>
     ensures { OnOk result (out.new.items ≡ out.old.items ++ payload entry.now) }
 {
-    entry.stamp.put(out)?;
-    entry.project.put(out)?;
+    entry.stamp.write_to(out)?;
+    entry.project.write_to(out)?;
     put_change(&entry.change, out)
 }
 
@@ -27,7 +27,7 @@ pub fn encode(alloc: Global, entry: &Entry) -> Result<Bytes, AllocError>
     put_payload(entry, &mut body)?;
     let mut out = Vec::new(alloc);
     let count = body.len() as u64;
-    count.put(&mut out)?;
+    count.write_to(&mut out)?;
     out.extend_from_slice(body.as_slice())?;
     Bytes::from_vec(alloc, out)
 }

@@ -14,17 +14,17 @@ impl Field for Point {
     ghost reading = { point_at };
 
     #[tactic(auto, unfolding(crate::specs::EntryBytes::point_bytes))]
-    fn put(&self, out: &mut Vec<u8>) -> Result<(), AllocError> {
-        self.x.put(out)?;
-        self.y.put(out)?;
-        self.z.put(out)
+    fn write_to(&self, out: &mut Vec<u8>) -> Result<(), AllocError> {
+        self.x.write_to(out)?;
+        self.y.write_to(out)?;
+        self.z.write_to(out)
     }
 
     #[tactic(auto, unfolding(crate::specs::inner::EntryReaders::point_at))]
-    fn take(alloc: Global, unread: &mut Unread) -> Result<Point, ReadError> {
-        let x = i32::take(alloc, unread)?;
-        let y = i32::take(alloc, unread)?;
-        let z = i32::take(alloc, unread)?;
+    fn read_from(alloc: Global, unread: &mut Unread) -> Result<Point, ReadError> {
+        let x = i32::read_from(alloc, unread)?;
+        let y = i32::read_from(alloc, unread)?;
+        let z = i32::read_from(alloc, unread)?;
         Ok(Point { x, y, z })
     }
 }
@@ -35,17 +35,17 @@ impl Field for Triangle {
     ghost reading = { triangle_at };
 
     #[tactic(auto, unfolding(crate::specs::EntryBytes::triangle_bytes))]
-    fn put(&self, out: &mut Vec<u8>) -> Result<(), AllocError> {
-        self.a.put(out)?;
-        self.b.put(out)?;
-        self.c.put(out)
+    fn write_to(&self, out: &mut Vec<u8>) -> Result<(), AllocError> {
+        self.a.write_to(out)?;
+        self.b.write_to(out)?;
+        self.c.write_to(out)
     }
 
     #[tactic(auto, unfolding(crate::specs::inner::EntryReaders::triangle_at))]
-    fn take(alloc: Global, unread: &mut Unread) -> Result<Triangle, ReadError> {
-        let a = Point::take(alloc, unread)?;
-        let b = Point::take(alloc, unread)?;
-        let c = Point::take(alloc, unread)?;
+    fn read_from(alloc: Global, unread: &mut Unread) -> Result<Triangle, ReadError> {
+        let a = Point::read_from(alloc, unread)?;
+        let b = Point::read_from(alloc, unread)?;
+        let c = Point::read_from(alloc, unread)?;
         Ok(Triangle { a, b, c })
     }
 }
@@ -56,21 +56,21 @@ impl Field for Element {
     ghost reading = { element_at };
 
     #[tactic(auto, unfolding(crate::specs::EntryBytes::element_bytes))]
-    fn put(&self, out: &mut Vec<u8>) -> Result<(), AllocError> {
-        self.guid.put(out)?;
-        self.class.put(out)?;
-        self.name.put(out)?;
-        self.storey.put(out)?;
-        self.triangles.put(out)
+    fn write_to(&self, out: &mut Vec<u8>) -> Result<(), AllocError> {
+        self.guid.write_to(out)?;
+        self.class.write_to(out)?;
+        self.name.write_to(out)?;
+        self.storey.write_to(out)?;
+        self.triangles.write_to(out)
     }
 
     #[tactic(auto, unfolding(crate::specs::inner::EntryReaders::element_at))]
-    fn take(alloc: Global, unread: &mut Unread) -> Result<Element, ReadError> {
-        let guid = Guid::take(alloc, unread)?;
-        let class = Text::take(alloc, unread)?;
-        let name = Text::take(alloc, unread)?;
-        let storey = Option::<Text>::take(alloc, unread)?;
-        let triangles = Items::<Triangle>::take(alloc, unread)?;
+    fn read_from(alloc: Global, unread: &mut Unread) -> Result<Element, ReadError> {
+        let guid = Guid::read_from(alloc, unread)?;
+        let class = Text::read_from(alloc, unread)?;
+        let name = Text::read_from(alloc, unread)?;
+        let storey = Option::<Text>::read_from(alloc, unread)?;
+        let triangles = Items::<Triangle>::read_from(alloc, unread)?;
         Ok(Element {
             guid,
             class,

@@ -15,17 +15,17 @@ impl Field for Cell {
     ghost reading = { cell_at };
 
     #[tactic(auto, unfolding(crate::specs::EntryBytes::cell_bytes))]
-    fn put(&self, out: &mut Vec<u8>) -> Result<(), AllocError> {
-        self.x.put(out)?;
-        self.y.put(out)?;
-        self.z.put(out)
+    fn write_to(&self, out: &mut Vec<u8>) -> Result<(), AllocError> {
+        self.x.write_to(out)?;
+        self.y.write_to(out)?;
+        self.z.write_to(out)
     }
 
     #[tactic(auto, unfolding(crate::specs::inner::EntryReaders::cell_at))]
-    fn take(alloc: Global, unread: &mut Unread) -> Result<Cell, ReadError> {
-        let x = i32::take(alloc, unread)?;
-        let y = i32::take(alloc, unread)?;
-        let z = i32::take(alloc, unread)?;
+    fn read_from(alloc: Global, unread: &mut Unread) -> Result<Cell, ReadError> {
+        let x = i32::read_from(alloc, unread)?;
+        let y = i32::read_from(alloc, unread)?;
+        let z = i32::read_from(alloc, unread)?;
         Ok(Cell { x, y, z })
     }
 }
@@ -36,14 +36,14 @@ impl Field for Stamp {
     ghost reading = { stamp_at };
 
     #[tactic(auto, unfolding(crate::specs::EntryBytes::stamp_bytes))]
-    fn put(&self, out: &mut Vec<u8>) -> Result<(), AllocError> {
-        self.turn.put(out)?;
-        self.pass.put(out)?;
-        self.call.put(out)
+    fn write_to(&self, out: &mut Vec<u8>) -> Result<(), AllocError> {
+        self.turn.write_to(out)?;
+        self.pass.write_to(out)?;
+        self.call.write_to(out)
     }
 
     #[tactic(auto, unfolding(crate::specs::inner::EntryReaders::stamp_at))]
-    fn take(_: Global, unread: &mut Unread) -> Result<Stamp, ReadError> {
+    fn read_from(_: Global, unread: &mut Unread) -> Result<Stamp, ReadError> {
         let turn = unread.long()?;
         let pass = unread.short()?;
         let call = unread.long()?;

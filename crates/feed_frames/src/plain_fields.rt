@@ -16,11 +16,11 @@ impl Field for u64 {
     ghost reading = { long_at };
 
     #[tactic(auto, unfolding(crate::specs::FieldBytes::long_bytes))]
-    fn put(&self, out: &mut Vec<u8>) -> Result<(), AllocError> {
+    fn write_to(&self, out: &mut Vec<u8>) -> Result<(), AllocError> {
         out.extend_from_slice(&self.to_be_bytes())
     }
 
-    fn take(_: Global, unread: &mut Unread) -> Result<u64, ReadError> {
+    fn read_from(_: Global, unread: &mut Unread) -> Result<u64, ReadError> {
         unread.long()
     }
 }
@@ -31,11 +31,11 @@ impl Field for u32 {
     ghost reading = { short_at };
 
     #[tactic(auto, unfolding(crate::specs::FieldBytes::short_bytes))]
-    fn put(&self, out: &mut Vec<u8>) -> Result<(), AllocError> {
+    fn write_to(&self, out: &mut Vec<u8>) -> Result<(), AllocError> {
         out.extend_from_slice(&self.to_be_bytes())
     }
 
-    fn take(_: Global, unread: &mut Unread) -> Result<u32, ReadError> {
+    fn read_from(_: Global, unread: &mut Unread) -> Result<u32, ReadError> {
         unread.short()
     }
 }
@@ -46,12 +46,12 @@ impl Field for i32 {
     ghost reading = { signed_at };
 
     #[tactic(auto, unfolding(crate::specs::FieldBytes::signed_bytes))]
-    fn put(&self, out: &mut Vec<u8>) -> Result<(), AllocError> {
+    fn write_to(&self, out: &mut Vec<u8>) -> Result<(), AllocError> {
         out.extend_from_slice(&self.to_be_bytes())
     }
 
     #[tactic(auto, unfolding(crate::specs::inner::FieldReaders::signed_at))]
-    fn take(_: Global, unread: &mut Unread) -> Result<i32, ReadError> {
+    fn read_from(_: Global, unread: &mut Unread) -> Result<i32, ReadError> {
         let bits = unread.short()?;
         Ok(bits.cast_signed())
     }
@@ -63,13 +63,13 @@ impl Field for bool {
     ghost reading = { truth_at };
 
     #[tactic(auto, unfolding(crate::specs::FieldBytes::truth_bytes))]
-    fn put(&self, out: &mut Vec<u8>) -> Result<(), AllocError> {
+    fn write_to(&self, out: &mut Vec<u8>) -> Result<(), AllocError> {
         out.push(u8::from(*self))?;
         Ok(())
     }
 
     #[tactic(auto, unfolding(crate::specs::inner::FieldReaders::truth_at))]
-    fn take(_: Global, unread: &mut Unread) -> Result<bool, ReadError> {
+    fn read_from(_: Global, unread: &mut Unread) -> Result<bool, ReadError> {
         match unread.byte()? {
             0 => Ok(false),
             1 => Ok(true),
@@ -84,23 +84,23 @@ impl<T: Field> Field for Option<T> {
     ghost reading = { optional_at T.reading };
 
     #[tactic(auto, unfolding(crate::specs::FieldBytes::optional_bytes))]
-    fn put(&self, out: &mut Vec<u8>) -> Result<(), AllocError> {
+    fn write_to(&self, out: &mut Vec<u8>) -> Result<(), AllocError> {
         match self {
             None => out.push(0)?,
             Some(value) => {
                 out.push(1)?;
-                value.put(out)?;
+                value.write_to(out)?;
             }
         }
         Ok(())
     }
 
     #[tactic(auto, unfolding(crate::specs::inner::FieldReaders::optional_at))]
-    fn take(alloc: Global, unread: &mut Unread) -> Result<Option<T>, ReadError> {
+    fn read_from(alloc: Global, unread: &mut Unread) -> Result<Option<T>, ReadError> {
         match unread.byte()? {
             0 => Ok(None),
             1 => {
-                let value = T::take(alloc, unread)?;
+                let value = T::read_from(alloc, unread)?;
                 Ok(Some(value))
             }
             _ => Err(ReadError::NotSpelled),
@@ -114,9 +114,9 @@ pub(crate) fn put_list<T: Field>(items: &[T], out: &mut Vec<u8>) -> Result<(), A
     ensures { OnOk result (out.new.items ≡ out.old.items ++ counted_bytes T.spelling items.now) }
 {
     let count = items.len() as u64;
-    count.put(out)?;
+    count.write_to(out)?;
     for item in items {
-        item.put(out)?;
+        item.write_to(out)?;
     }
     Ok(())
 }
@@ -131,7 +131,7 @@ fn items_of<T: Field>(
 {
     let mut items = Items::new(alloc);
     for _ in 0..count {
-        let item = T::take(alloc, unread)?;
+        let item = T::read_from(alloc, unread)?;
         items.push(item)?;
     }
     Ok(items)
@@ -142,12 +142,12 @@ impl<T: Field> Field for Items<T> {
 
     ghost reading = { counted_at T.reading };
 
-    fn put(&self, out: &mut Vec<u8>) -> Result<(), AllocError> {
+    fn write_to(&self, out: &mut Vec<u8>) -> Result<(), AllocError> {
         put_list(self.as_slice(), out)
     }
 
     #[tactic(auto, unfolding(crate::specs::inner::FieldReaders::counted_at))]
-    fn take(alloc: Global, unread: &mut Unread) -> Result<Items<T>, ReadError> {
+    fn read_from(alloc: Global, unread: &mut Unread) -> Result<Items<T>, ReadError> {
         let count = unread.long()?;
         items_of(alloc, count, unread)
     }

@@ -44,23 +44,23 @@ impl Field for ClassTest {
     ghost reading = { class_test_at };
 
     #[tactic(auto, unfolding(crate::specs::EntryBytes::class_test_bytes))]
-    fn put(&self, out: &mut Vec<u8>) -> Result<(), AllocError> {
+    fn write_to(&self, out: &mut Vec<u8>) -> Result<(), AllocError> {
         match self {
             ClassTest::Any => out.push(0)?,
             ClassTest::Named(name) => {
                 out.push(1)?;
-                name.put(out)?;
+                name.write_to(out)?;
             }
         }
         Ok(())
     }
 
     #[tactic(auto, unfolding(crate::specs::inner::EntryReaders::class_test_at))]
-    fn take(alloc: Global, unread: &mut Unread) -> Result<ClassTest, ReadError> {
+    fn read_from(alloc: Global, unread: &mut Unread) -> Result<ClassTest, ReadError> {
         match unread.byte()? {
             0 => Ok(ClassTest::Any),
             1 => {
-                let name = Text::take(alloc, unread)?;
+                let name = Text::read_from(alloc, unread)?;
                 if is_class_name(name.as_str().as_bytes()) {
                     Ok(ClassTest::Named(name))
                 } else {
@@ -78,7 +78,7 @@ impl Field for StoreyTest {
     ghost reading = { storey_test_at };
 
     #[tactic(auto, unfolding(crate::specs::EntryBytes::storey_test_bytes))]
-    fn put(&self, out: &mut Vec<u8>) -> Result<(), AllocError> {
+    fn write_to(&self, out: &mut Vec<u8>) -> Result<(), AllocError> {
         let kind = match self {
             StoreyTest::Any => 0,
             StoreyTest::Same => 1,
@@ -89,7 +89,7 @@ impl Field for StoreyTest {
     }
 
     #[tactic(auto, unfolding(crate::specs::inner::EntryReaders::storey_test_at))]
-    fn take(_: Global, unread: &mut Unread) -> Result<StoreyTest, ReadError> {
+    fn read_from(_: Global, unread: &mut Unread) -> Result<StoreyTest, ReadError> {
         match unread.byte()? {
             0 => Ok(StoreyTest::Any),
             1 => Ok(StoreyTest::Same),
@@ -105,7 +105,7 @@ impl Field for ModelTest {
     ghost reading = { model_test_at };
 
     #[tactic(auto, unfolding(crate::specs::EntryBytes::model_test_bytes))]
-    fn put(&self, out: &mut Vec<u8>) -> Result<(), AllocError> {
+    fn write_to(&self, out: &mut Vec<u8>) -> Result<(), AllocError> {
         let kind = match self {
             ModelTest::Any => 0,
             ModelTest::Same => 1,
@@ -116,7 +116,7 @@ impl Field for ModelTest {
     }
 
     #[tactic(auto, unfolding(crate::specs::inner::EntryReaders::model_test_at))]
-    fn take(_: Global, unread: &mut Unread) -> Result<ModelTest, ReadError> {
+    fn read_from(_: Global, unread: &mut Unread) -> Result<ModelTest, ReadError> {
         match unread.byte()? {
             0 => Ok(ModelTest::Any),
             1 => Ok(ModelTest::Same),
@@ -131,13 +131,13 @@ impl Field for Distance {
 
     ghost reading = { distance_at };
 
-    fn put(&self, out: &mut Vec<u8>) -> Result<(), AllocError> {
+    fn write_to(&self, out: &mut Vec<u8>) -> Result<(), AllocError> {
         let millimetres = self.millimetres();
-        millimetres.put(out)
+        millimetres.write_to(out)
     }
 
     #[tactic(auto, unfolding(crate::specs::inner::EntryReaders::distance_at))]
-    fn take(_: Global, unread: &mut Unread) -> Result<Distance, ReadError> {
+    fn read_from(_: Global, unread: &mut Unread) -> Result<Distance, ReadError> {
         let millimetres = unread.short()?;
         if millimetres > MOST_DISTANCE {
             return Err(ReadError::NotSpelled);
@@ -152,11 +152,11 @@ impl Field for RuleKind {
     ghost reading = { rule_kind_at };
 
     #[tactic(auto, unfolding(crate::specs::EntryBytes::rule_kind_bytes))]
-    fn put(&self, out: &mut Vec<u8>) -> Result<(), AllocError> {
+    fn write_to(&self, out: &mut Vec<u8>) -> Result<(), AllocError> {
         match self {
             RuleKind::Clash { distance } => {
                 out.push(0)?;
-                distance.put(out)?;
+                distance.write_to(out)?;
             }
             RuleKind::Ignore => out.push(1)?,
         }
@@ -164,10 +164,10 @@ impl Field for RuleKind {
     }
 
     #[tactic(auto, unfolding(crate::specs::inner::EntryReaders::rule_kind_at))]
-    fn take(alloc: Global, unread: &mut Unread) -> Result<RuleKind, ReadError> {
+    fn read_from(alloc: Global, unread: &mut Unread) -> Result<RuleKind, ReadError> {
         match unread.byte()? {
             0 => {
-                let distance = Distance::take(alloc, unread)?;
+                let distance = Distance::read_from(alloc, unread)?;
                 Ok(RuleKind::Clash { distance })
             }
             1 => Ok(RuleKind::Ignore),
@@ -182,23 +182,23 @@ impl Field for Rule {
     ghost reading = { rule_at };
 
     #[tactic(auto, unfolding(crate::specs::EntryBytes::rule_bytes))]
-    fn put(&self, out: &mut Vec<u8>) -> Result<(), AllocError> {
-        self.a.put(out)?;
-        self.b.put(out)?;
-        self.storey.put(out)?;
-        self.level.put(out)?;
-        self.models.put(out)?;
-        self.kind.put(out)
+    fn write_to(&self, out: &mut Vec<u8>) -> Result<(), AllocError> {
+        self.a.write_to(out)?;
+        self.b.write_to(out)?;
+        self.storey.write_to(out)?;
+        self.level.write_to(out)?;
+        self.models.write_to(out)?;
+        self.kind.write_to(out)
     }
 
     #[tactic(auto, unfolding(crate::specs::inner::EntryReaders::rule_at))]
-    fn take(alloc: Global, unread: &mut Unread) -> Result<Rule, ReadError> {
-        let a = ClassTest::take(alloc, unread)?;
-        let b = ClassTest::take(alloc, unread)?;
-        let storey = StoreyTest::take(alloc, unread)?;
+    fn read_from(alloc: Global, unread: &mut Unread) -> Result<Rule, ReadError> {
+        let a = ClassTest::read_from(alloc, unread)?;
+        let b = ClassTest::read_from(alloc, unread)?;
+        let storey = StoreyTest::read_from(alloc, unread)?;
         let level = take_level(alloc, unread)?;
-        let models = ModelTest::take(alloc, unread)?;
-        let kind = RuleKind::take(alloc, unread)?;
+        let models = ModelTest::read_from(alloc, unread)?;
+        let kind = RuleKind::read_from(alloc, unread)?;
         Ok(Rule {
             a,
             b,
@@ -215,7 +215,7 @@ impl Field for Rule {
 fn take_level(alloc: Global, unread: &mut Unread) -> Result<Option<Text>, ReadError>
     ensures { Gives result unread.new (level_at unread.old) }
 {
-    let level = Option::<Text>::take(alloc, unread)?;
+    let level = Option::<Text>::read_from(alloc, unread)?;
     if !is_level(&level) {
         return Err(ReadError::NotSpelled);
     }
@@ -228,7 +228,7 @@ pub(crate) fn take_rules(alloc: Global, unread: &mut Unread) -> Result<Rules, Re
     ensures { Gives result unread.new (rules_at unread.old) }
 {
     unread.are_bytes();
-    let list = Items::<Rule>::take(alloc, unread)?;
+    let list = Items::<Rule>::read_from(alloc, unread)?;
     if list.len() > MOST_RULES {
         return Err(ReadError::NotSpelled);
     }

@@ -15,31 +15,31 @@ impl Field for TopicBody {
     ghost reading = { topic_at };
 
     #[tactic(auto, unfolding(crate::specs::EntryBytes::topic_bytes))]
-    fn put(&self, out: &mut Vec<u8>) -> Result<(), AllocError> {
-        self.title.put(out)?;
-        self.topic_type.put(out)?;
-        self.topic_status.put(out)?;
-        self.priority.put(out)?;
-        self.index.put(out)?;
-        self.labels.put(out)?;
-        self.assigned_to.put(out)?;
-        self.stage.put(out)?;
-        self.description.put(out)?;
-        self.due.put(out)
+    fn write_to(&self, out: &mut Vec<u8>) -> Result<(), AllocError> {
+        self.title.write_to(out)?;
+        self.topic_type.write_to(out)?;
+        self.topic_status.write_to(out)?;
+        self.priority.write_to(out)?;
+        self.index.write_to(out)?;
+        self.labels.write_to(out)?;
+        self.assigned_to.write_to(out)?;
+        self.stage.write_to(out)?;
+        self.description.write_to(out)?;
+        self.due.write_to(out)
     }
 
     #[tactic(auto, unfolding(crate::specs::inner::EntryReaders::topic_at))]
-    fn take(alloc: Global, unread: &mut Unread) -> Result<TopicBody, ReadError> {
-        let title = Text::take(alloc, unread)?;
-        let topic_type = Option::<Text>::take(alloc, unread)?;
-        let topic_status = Option::<Text>::take(alloc, unread)?;
-        let priority = Option::<Text>::take(alloc, unread)?;
-        let index = Option::<i32>::take(alloc, unread)?;
-        let labels = Items::<Text>::take(alloc, unread)?;
-        let assigned_to = Option::<Text>::take(alloc, unread)?;
-        let stage = Option::<Text>::take(alloc, unread)?;
-        let description = Option::<Text>::take(alloc, unread)?;
-        let due = Option::<Moment>::take(alloc, unread)?;
+    fn read_from(alloc: Global, unread: &mut Unread) -> Result<TopicBody, ReadError> {
+        let title = Text::read_from(alloc, unread)?;
+        let topic_type = Option::<Text>::read_from(alloc, unread)?;
+        let topic_status = Option::<Text>::read_from(alloc, unread)?;
+        let priority = Option::<Text>::read_from(alloc, unread)?;
+        let index = Option::<i32>::read_from(alloc, unread)?;
+        let labels = Items::<Text>::read_from(alloc, unread)?;
+        let assigned_to = Option::<Text>::read_from(alloc, unread)?;
+        let stage = Option::<Text>::read_from(alloc, unread)?;
+        let description = Option::<Text>::read_from(alloc, unread)?;
+        let due = Option::<Moment>::read_from(alloc, unread)?;
         Ok(TopicBody {
             title,
             topic_type,
@@ -61,15 +61,15 @@ impl Field for CommentBody {
     ghost reading = { comment_at };
 
     #[tactic(auto, unfolding(crate::specs::EntryBytes::comment_bytes))]
-    fn put(&self, out: &mut Vec<u8>) -> Result<(), AllocError> {
-        self.comment.put(out)?;
-        self.viewpoint.put(out)
+    fn write_to(&self, out: &mut Vec<u8>) -> Result<(), AllocError> {
+        self.comment.write_to(out)?;
+        self.viewpoint.write_to(out)
     }
 
     #[tactic(auto, unfolding(crate::specs::inner::EntryReaders::comment_at))]
-    fn take(alloc: Global, unread: &mut Unread) -> Result<CommentBody, ReadError> {
-        let comment = Text::take(alloc, unread)?;
-        let viewpoint = Option::<u64>::take(alloc, unread)?;
+    fn read_from(alloc: Global, unread: &mut Unread) -> Result<CommentBody, ReadError> {
+        let comment = Text::read_from(alloc, unread)?;
+        let viewpoint = Option::<u64>::read_from(alloc, unread)?;
         Ok(CommentBody { comment, viewpoint })
     }
 }

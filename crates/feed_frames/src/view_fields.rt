@@ -17,17 +17,17 @@ impl Field for Component {
     ghost reading = { component_at };
 
     #[tactic(auto, unfolding(crate::specs::EntryBytes::component_bytes))]
-    fn put(&self, out: &mut Vec<u8>) -> Result<(), AllocError> {
-        self.ifc_guid.put(out)?;
-        self.originating_system.put(out)?;
-        self.authoring_tool_id.put(out)
+    fn write_to(&self, out: &mut Vec<u8>) -> Result<(), AllocError> {
+        self.ifc_guid.write_to(out)?;
+        self.originating_system.write_to(out)?;
+        self.authoring_tool_id.write_to(out)
     }
 
     #[tactic(auto, unfolding(crate::specs::inner::EntryReaders::component_at))]
-    fn take(alloc: Global, unread: &mut Unread) -> Result<Component, ReadError> {
-        let ifc_guid = Option::<Guid>::take(alloc, unread)?;
-        let originating_system = Option::<Text>::take(alloc, unread)?;
-        let authoring_tool_id = Option::<Text>::take(alloc, unread)?;
+    fn read_from(alloc: Global, unread: &mut Unread) -> Result<Component, ReadError> {
+        let ifc_guid = Option::<Guid>::read_from(alloc, unread)?;
+        let originating_system = Option::<Text>::read_from(alloc, unread)?;
+        let authoring_tool_id = Option::<Text>::read_from(alloc, unread)?;
         Ok(Component {
             ifc_guid,
             originating_system,
@@ -42,15 +42,15 @@ impl Field for Coloring {
     ghost reading = { coloring_at };
 
     #[tactic(auto, unfolding(crate::specs::EntryBytes::coloring_bytes))]
-    fn put(&self, out: &mut Vec<u8>) -> Result<(), AllocError> {
-        self.color.put(out)?;
-        self.components.put(out)
+    fn write_to(&self, out: &mut Vec<u8>) -> Result<(), AllocError> {
+        self.color.write_to(out)?;
+        self.components.write_to(out)
     }
 
     #[tactic(auto, unfolding(crate::specs::inner::EntryReaders::coloring_at))]
-    fn take(alloc: Global, unread: &mut Unread) -> Result<Coloring, ReadError> {
-        let color = Text::take(alloc, unread)?;
-        let components = Items::<Component>::take(alloc, unread)?;
+    fn read_from(alloc: Global, unread: &mut Unread) -> Result<Coloring, ReadError> {
+        let color = Text::read_from(alloc, unread)?;
+        let components = Items::<Component>::read_from(alloc, unread)?;
         Ok(Coloring { color, components })
     }
 }
@@ -61,21 +61,21 @@ impl Field for ViewBody {
     ghost reading = { view_at };
 
     #[tactic(auto, unfolding(crate::specs::EntryBytes::view_bytes))]
-    fn put(&self, out: &mut Vec<u8>) -> Result<(), AllocError> {
-        self.index.put(out)?;
-        self.selection.put(out)?;
-        self.coloring.put(out)?;
-        self.default_visibility.put(out)?;
-        self.exceptions.put(out)
+    fn write_to(&self, out: &mut Vec<u8>) -> Result<(), AllocError> {
+        self.index.write_to(out)?;
+        self.selection.write_to(out)?;
+        self.coloring.write_to(out)?;
+        self.default_visibility.write_to(out)?;
+        self.exceptions.write_to(out)
     }
 
     #[tactic(auto, unfolding(crate::specs::inner::EntryReaders::view_at))]
-    fn take(alloc: Global, unread: &mut Unread) -> Result<ViewBody, ReadError> {
-        let index = Option::<i32>::take(alloc, unread)?;
-        let selection = Items::<Component>::take(alloc, unread)?;
-        let coloring = Items::<Coloring>::take(alloc, unread)?;
-        let default_visibility = bool::take(alloc, unread)?;
-        let exceptions = Items::<Component>::take(alloc, unread)?;
+    fn read_from(alloc: Global, unread: &mut Unread) -> Result<ViewBody, ReadError> {
+        let index = Option::<i32>::read_from(alloc, unread)?;
+        let selection = Items::<Component>::read_from(alloc, unread)?;
+        let coloring = Items::<Coloring>::read_from(alloc, unread)?;
+        let default_visibility = bool::read_from(alloc, unread)?;
+        let exceptions = Items::<Component>::read_from(alloc, unread)?;
         Ok(ViewBody {
             index,
             selection,
@@ -91,6 +91,6 @@ pub(crate) fn take_view(alloc: Global, unread: &mut Unread) -> Result<CheckedBod
     ensures { Gives result unread.new (view_at unread.old) }
 {
     unread.are_bytes();
-    let body = ViewBody::take(alloc, unread)?;
+    let body = ViewBody::read_from(alloc, unread)?;
     Ok(CheckedBody::of(body))
 }

@@ -1,4 +1,4 @@
-use Rattle.feed_frames.proofs.Frames.{frames_apart}
+use Rattle.feed_frames.proofs.Apart.{frames_apart}
 use Rattle.feed_frames.proofs.laws.frames_are_apart.Goals as goal
 
 pub returns : goal.returns
