@@ -75,10 +75,10 @@ change_format =
 pub entry_format : IsFormat Entry entry_at payload FitsEntry
 unfolding entry_at payload
 entry_format =
-    made (both part.stamp (both field.short change_format))
-    (λ p. record { stamp = p.0; project = p.1.0; change = p.1.1 })
-    (λ (e : Entry). (e.stamp, (e.project, e.change)))
-    (λ x p. refl) (λ x p. p) (λ y p. refl) (λ y p. p)
+    made (both (both part.stamp field.short) change_format)
+    (λ p. record { stamp = p.0.0; project = p.0.1; change = p.1 })
+    (λ (e : Entry). ((e.stamp, e.project), e.change))
+    (λ x p. refl) (λ x p. (p.0.0, (p.0.1, p.1))) (λ y p. refl) (λ y p. ((p.0, p.1.0), p.1.1))
 
 -- ---- no kind but the first uploads a model
 

@@ -6,3 +6,4 @@ pub mod Changes
 pub mod Apart
 pub mod Payloads
 pub mod Admitted
+pub mod Kept

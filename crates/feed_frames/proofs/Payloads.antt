@@ -5,18 +5,14 @@ use Rattle.std.proofs.lemmas.Option.{same_Some}
 use Rattle.book_history.specs.declared.changes.Entry.{Entry}
 use Rattle.feed_frames.specs.declared.read_error.ReadError.TheVariants.{NotSpelled}
 use Rattle.feed_frames.specs.EntryBytes.{payload}
-use Rattle.feed_frames.specs.SpelledEntries.{IsLong, UploadsModel, IsEntry}
+use Rattle.feed_frames.specs.SpelledEntries.{IsLong, UploadsModelOf, IsEntry}
 use Rattle.feed_frames.specs.inner.Readers.{Refuses}
 use Rattle.feed_frames.specs.inner.EntryReaders.{entry_at}
 use Rattle.feed_frames.proofs.Formats.{IsBytes}
 use Rattle.feed_frames.proofs.Changes.{entry_format}
 
--- an entry whose elements are a model
-abbrev pub Models : Entry → Type 0
-Models e = UploadsModel e.change
-
 -- what was read of all the bytes
-pub found : (bytes : List ℕ) (e : Entry) (rest : List ℕ) → IsBytes bytes → IsLong (length bytes) → entry_at bytes ≡ Some (e, rest) → rest ≡ [] → Models e → IsEntry e × (payload e ≡ bytes)
+pub found : (bytes : List ℕ) (e : Entry) (rest : List ℕ) → IsBytes bytes → IsLong (length bytes) → entry_at bytes ≡ Some (e, rest) → rest ≡ [] → UploadsModelOf e → IsEntry e × (payload e ≡ bytes)
 found bytes e rest fits short read empty models =
     let t = entry_format.takes bytes e rest fits read in
     let whole : bytes ≡ payload e =
@@ -34,7 +30,7 @@ read_again bytes e good same =
     ap entry_at (sym same ∙ sym (append-nil (payload e))) ∙ entry_format.again e [] good.fits
 
 -- what was refused spells none
-pub refused : (bytes : List ℕ) → Refuses Models NotSpelled (entry_at bytes) → (e : Entry) → IsEntry e → payload e ≡ bytes → ⊥
+pub refused : (bytes : List ℕ) → Refuses UploadsModelOf NotSpelled (entry_at bytes) → (e : Entry) → IsEntry e → payload e ≡ bytes → ⊥
 refused bytes none e good same = none e [] (read_again bytes e good same) good.models
 
 -- nor do bytes that have more than an entry

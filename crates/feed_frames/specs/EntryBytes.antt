@@ -168,7 +168,7 @@ stamp_bytes s = long_bytes s.turn ++ (short_bytes s.pass ++ long_bytes s.call)
 
 -- the payload of an entry's frame
 unfoldable pub payload : Entry → List ℕ
-payload e = stamp_bytes e.stamp ++ (short_bytes e.project ++ change_bytes e.change)
+payload e = stamp_bytes e.stamp ++ short_bytes e.project ++ change_bytes e.change
 
 -- the frame of an entry: how many bytes its payload has, and these
 unfoldable pub frame : Entry → List ℕ

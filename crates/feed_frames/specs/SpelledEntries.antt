@@ -163,6 +163,10 @@ abbrev pub UploadsModel : Change → Type 0
 UploadsModel (change.Upload name model) = IsModel model
 UploadsModel _ = Unit {0}
 
+-- the same of an entry
+abbrev pub UploadsModelOf : Entry → Type 0
+UploadsModelOf e = UploadsModel e.change
+
 -- the call that made an entry
 abbrev pub FitsStamp : Stamp → Type 0
 FitsStamp s = IsLong s.turn × (IsShort s.pass × IsLong s.call)
@@ -174,5 +178,5 @@ FitsEntry e = FitsStamp e.stamp × (IsShort e.project × FitsChange e.change)
 -- an entry that a frame can spell
 pub record IsEntry (e : Entry) : Type 0 where
   pub fits : FitsEntry e
-  pub models : UploadsModel e.change
+  pub models : UploadsModelOf e
   pub counted : IsLong (length (payload e))

@@ -2,9 +2,9 @@
 ghost use Rattle.std.specs.Prelude.{◌≡◌, ◌≢◌, IfOk, IfSome, IfNone};
 ghost use Rattle.book_history.specs.declared.changes.Entry.{Entry};
 ghost use Rattle.feed_frames.specs.EntryBytes.{payload};
-ghost use Rattle.feed_frames.specs.SpelledEntries.{UploadsModel, IsEntry};
-ghost use Rattle.feed_frames.specs.inner.Readers.{Admits, Lacks};
-ghost use Rattle.feed_frames.specs.inner.EntryReaders.{entry_at};
+ghost use Rattle.feed_frames.specs.SpelledEntries.{UploadsModelOf, IsEntry};
+ghost use Rattle.feed_frames.specs.inner.Readers.{Gives, Admits, Lacks};
+ghost use Rattle.feed_frames.specs.inner.EntryReaders.{head_at, entry_at};
 
 use crate::change_reading::take_change;
 use crate::field::Field;
@@ -13,12 +13,20 @@ use crate::unread::Unread;
 use book_history::{Entry, Stamp};
 use std::alloc::{AllocError, Global};
 
-// Takes an entry from the front of the bytes.
-fn take_entry(alloc: Global, unread: &mut Unread) -> Result<Entry, ReadError>
-    ensures { Admits (λ (e : Entry). UploadsModel e.change) result unread.new (entry_at unread.old) }
+// The call that made an entry, and its project.
+fn take_head(alloc: Global, unread: &mut Unread) -> Result<(Stamp, u32), ReadError>
+    ensures { Gives result unread.new (head_at unread.old) }
 {
     let stamp = Stamp::read_from(alloc, unread)?;
     let project = unread.short()?;
+    Ok((stamp, project))
+}
+
+// Takes an entry from the front of the bytes.
+fn take_entry(alloc: Global, unread: &mut Unread) -> Result<Entry, ReadError>
+    ensures { Admits UploadsModelOf result unread.new (entry_at unread.old) }
+{
+    let (stamp, project) = take_head(alloc, unread)?;
     let change = take_change(alloc, unread)?;
     Ok(Entry {
         stamp,

@@ -1,5 +1,6 @@
 //! Clash rules.
 ghost use Rattle.std.specs.Prelude.{◌≡◌};
+ghost use Rattle.std.specs.List.{list_all};
 ghost use Rattle.bim_model.specs.Rules.{is_class_char};
 ghost use Rattle.feed_frames.specs.FieldBytes.{short_bytes};
 ghost use Rattle.feed_frames.specs.EntryBytes.{class_test_bytes, storey_test_bytes, model_test_bytes, rule_kind_bytes, rule_bytes};
@@ -21,11 +22,17 @@ fn is_class_char(byte: u8) -> bool
     byte.is_ascii_uppercase() || byte.is_ascii_digit() || byte == b'_'
 }
 
+fn are_class_chars(name: &[u8]) -> bool
+    ensures { result ≡ list_all is_class_char name.now }
+{
+    name.iter().all(|byte| is_class_char(*byte))
+}
+
 // Whether a rule may name this class.
 fn is_class_name(name: &[u8]) -> bool
     ensures { result ≡ is_class_name name.now }
 {
-    !name.is_empty() && name.len() <= MOST_CLASS && name.iter().all(|byte| is_class_char(*byte))
+    0 < name.len() && name.len() <= MOST_CLASS && are_class_chars(name)
 }
 
 // Whether a rule may name this storey, or none.

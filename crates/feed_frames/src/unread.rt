@@ -1,4 +1,6 @@
 //! Bytes that are read from the front.
+ghost use Rattle.std.specs.Prelude.{◌<◌, ℕ, slice_index};
+
 use crate::read_error::ReadError;
 use std::marker::Model;
 
@@ -16,10 +18,15 @@ impl<'a> Model for Unread<'a> {
     ghost view = { λ u. u.bytes.now };
 }
 
+fn are_bytes(bytes: &[u8])
+    ensures { (i : ℕ) → slice_index bytes.now i < 256 }
+{
+}
+
 impl<'a> Unread<'a> {
-    ghost use Rattle.std.specs.Prelude.{◌≡◌, ◌<◌, ◌==◌, ℕ, [], length, slice_index, IfOk, IsTrue};
+    ghost use Rattle.std.specs.Prelude.{◌≡◌, ◌==◌, length, IfOk};
     ghost use Rattle.feed_frames.specs.inner.Readers.{Gives, GivesBy, byte_at, cut_at};
-    ghost use Rattle.feed_frames.specs.inner.FieldReaders.{long_at, short_at, signed_at};
+    ghost use Rattle.feed_frames.specs.inner.FieldReaders.{long_at, short_at};
 
     /// All of these bytes.
     pub fn new(bytes: &'a [u8]) -> Unread<'a>
@@ -39,7 +46,7 @@ impl<'a> Unread<'a> {
     pub fn are_bytes(&self)
         ensures { (i : ℕ) → slice_index self.now i < 256 }
     {
-        let _bytes = self.bytes;
+        are_bytes(self.bytes);
     }
 
     /// The next byte.

@@ -312,9 +312,11 @@ stamp_at bytes =
     (both_at long_at (both_at short_at long_at))
     bytes
 
+-- the call that made an entry, and its project
+abbrev pub head_at : Reader (Stamp × ℕ)
+head_at = both_at stamp_at short_at
+
 -- an entry
 unfoldable pub entry_at : Reader Entry
 entry_at bytes =
-    made_at (λ p. record { stamp = p.0; project = p.1.0; change = p.1.1 })
-    (both_at stamp_at (both_at short_at change_at))
-    bytes
+    made_at (λ p. record { stamp = p.0.0; project = p.0.1; change = p.1 }) (both_at head_at change_at) bytes
