@@ -37,7 +37,7 @@ pub text_is : (old : List ℕ) (n : ℕ) (mid bytes rest : List ℕ) → long_at
 unfolding text_at
 text_is old n mid bytes rest count cut good =
     let sized : option_then (long_at old) (λ x. cut_at x.0 x.1) ≡ Some (bytes, rest) =
-      ap (λ o. option_then o (λ x. cut_at x.0 x.1)) count ∙ cut
+    ap (λ o. option_then o (λ x. cut_at x.0 x.1)) count ∙ cut
     in
     ap (λ o. option_then o (λ x. cond (is_utf8 x.0) (Some x) None)) sized
     ∙ ap (λ (b : Bool). cond b (Some (bytes, rest)) None) good
@@ -46,7 +46,7 @@ pub no_text_is : (old : List ℕ) (n : ℕ) (mid bytes rest : List ℕ) → long
 unfolding text_at
 no_text_is old n mid bytes rest count cut bad =
     let sized : option_then (long_at old) (λ x. cut_at x.0 x.1) ≡ Some (bytes, rest) =
-      ap (λ o. option_then o (λ x. cut_at x.0 x.1)) count ∙ cut
+    ap (λ o. option_then o (λ x. cut_at x.0 x.1)) count ∙ cut
     in
     ap (λ o. option_then o (λ x. cond (is_utf8 x.0) (Some x) None)) sized
     ∙ ap (λ (b : Bool). cond b (Some (bytes, rest)) None) bad
@@ -62,11 +62,11 @@ upload_is old name elements rest read =
 pub upload_refused : (old name : List ℕ) (elements : List Element) (rest : List ℕ) → named_elements_at old ≡ Some ((name, elements), rest) → (IsModel elements → ⊥) → Refuses UploadsModel NotSpelled (upload_at old)
 upload_refused old name elements rest read no =
     λ x left found model.
-      let same : change.Upload name elements ≡ x =
-        ap (λ (w : Change × List ℕ). w.0)
-        (same_Some (change.Upload name elements, rest) (x, left) (sym (upload_is old name elements rest read) ∙ found))
-      in
-      no (subst (λ (c : Change). UploadsModel c) (sym same) model)
+    let same : change.Upload name elements ≡ x =
+    ap (λ (w : Change × List ℕ). w.0)
+    (same_Some (change.Upload name elements, rest) (x, left) (sym (upload_is old name elements rest read) ∙ found))
+    in
+    no (subst (λ (c : Change). UploadsModel c) (sym same) model)
 
 pub upload_fails : (e : ReadError) (old : List ℕ) → Fails e (named_elements_at old) → Fails e (upload_at old)
 unfolding upload_at
@@ -90,8 +90,8 @@ byte_first old kind mid read =
 pub change_uploads : (old : List ℕ) (kind : ℕ) (mid : List ℕ) (r : Result Change ReadError) (left : List ℕ) → byte_at old ≡ Some (kind, mid) → kind ≡ 1 → Admits UploadsModel r left (upload_at mid) → Admits UploadsModel r left (change_at old)
 change_uploads old kind mid r left read one admits =
     let same : change_at old ≡ upload_at mid =
-      byte_first old kind mid read
-      ∙ ap (λ (k : ℕ). cond (eqb k 1) (upload_at mid) (other_kinds kind mid)) one
+    byte_first old kind mid read
+    ∙ ap (λ (k : ℕ). cond (eqb k 1) (upload_at mid) (other_kinds kind mid)) one
     in
     subst (λ (o : Option (Change × List ℕ)). Admits UploadsModel r left o) (sym same) admits
 
@@ -105,8 +105,8 @@ not_one k not =
 pub change_others : (old : List ℕ) (kind : ℕ) (mid : List ℕ) (r : Result Change ReadError) (left : List ℕ) → byte_at old ≡ Some (kind, mid) → (kind ≡ 1 → ⊥) → Gives r left (other_kinds kind mid) → Admits UploadsModel r left (change_at old)
 change_others old kind mid r left read other given =
     let same : change_at old ≡ other_kinds kind mid =
-      byte_first old kind mid read
-      ∙ ap (λ (b : Bool). cond b (upload_at mid) (other_kinds kind mid)) (not_one kind other)
+    byte_first old kind mid read
+    ∙ ap (λ (b : Bool). cond b (upload_at mid) (other_kinds kind mid)) (not_one kind other)
     in
     subst (λ (o : Option (Change × List ℕ)). Admits UploadsModel r left o) (sym same)
     (given_admitted UploadsModel r left (other_kinds kind mid) given (no_model_is_read kind mid))
@@ -142,8 +142,8 @@ pub entry_refused : (e : ReadError) (old : List ℕ) (head : Stamp × ℕ) (mid 
 entry_refused Memory old head mid first refused = tt
 entry_refused NotSpelled old head mid first refused =
     λ x rest found model.
-      let a = then_some (change_at mid) (λ y. Some (entry_of (head, y.0), y.1)) (x, rest)
-        (sym (head_first old head mid first) ∙ found)
-      in
-      let same = same_Some (entry_of (head, a.0.0), a.0.1) (x, rest) a.2 in
-      refused a.0.0 a.0.1 a.1 (subst (λ (w : Entry × List ℕ). UploadsModelOf w.0) (sym same) model)
+    let a = then_some (change_at mid) (λ y. Some (entry_of (head, y.0), y.1)) (x, rest)
+    (sym (head_first old head mid first) ∙ found)
+    in
+    let same = same_Some (entry_of (head, a.0.0), a.0.1) (x, rest) a.2 in
+    refused a.0.0 a.0.1 a.1 (subst (λ (w : Entry × List ℕ). UploadsModelOf w.0) (sym same) model)

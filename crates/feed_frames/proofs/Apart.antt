@@ -27,15 +27,15 @@ pub frames_apart : FramesAreApart
 unfolding frame
 frames_apart e f x y he hf same =
     let left : frame e ++ x ≡ long_bytes (length (payload e)) ++ (payload e ++ x) =
-      append_assoc (long_bytes (length (payload e))) (payload e) x
+    append_assoc (long_bytes (length (payload e))) (payload e) x
     in
     let right : frame f ++ y ≡ long_bytes (length (payload f)) ++ (payload f ++ y) =
-      append_assoc (long_bytes (length (payload f))) (payload f) y
+    append_assoc (long_bytes (length (payload f))) (payload f) y
     in
     let counts = some_pair_parts (length (payload e)) (length (payload f)) (payload e ++ x) (payload f ++ y)
-      (sym (long.again (length (payload e)) (payload e ++ x) he.counted)
-      ∙ ap long_at (sym left ∙ same ∙ right)
-      ∙ long.again (length (payload f)) (payload f ++ y) hf.counted)
+    (sym (long.again (length (payload e)) (payload e ++ x) he.counted)
+    ∙ ap long_at (sym left ∙ same ∙ right)
+    ∙ long.again (length (payload f)) (payload f ++ y) hf.counted)
     in
     payloads_apart e f x y he hf counts.1
 
@@ -56,7 +56,7 @@ unfolding frame
 no_rest e behind good partial =
     let n = length (payload e) in
     let there : IsPartial (long_bytes n ++ (payload e ++ behind)) =
-      subst (λ (l : List ℕ). IsPartial l) (append_assoc (long_bytes n) (payload e) behind) partial
+    subst (λ (l : List ℕ). IsPartial l) (append_assoc (long_bytes n) (payload e) behind) partial
     in
     let size = length-append (long_bytes n) (payload e ++ behind) in
     let inner = length-append (payload e) behind in
@@ -73,7 +73,7 @@ splits_once [] (f ∷ fs) x y ges gfs px py same =
     absurd (no_rest f (frames fs ++ y) gfs.0 (subst IsPartial (same ∙ append_assoc (frame f) (frames fs) y) px))
 splits_once (e ∷ es) (f ∷ fs) x y ges gfs px py same =
     let p = frames_apart e f (frames es ++ x) (frames fs ++ y) ges.0 gfs.0
-      (sym (append_assoc (frame e) (frames es) x) ∙ same ∙ append_assoc (frame f) (frames fs) y)
+    (sym (append_assoc (frame e) (frames es) x) ∙ same ∙ append_assoc (frame f) (frames fs) y)
     in
     let q = splits_once es fs x y ges.1 gfs.1 px py p.1 in
     (ap (λ (g : Entry). g ∷ es) p.0 ∙ ap (λ (l : List Entry). f ∷ l) q.0, q.1)

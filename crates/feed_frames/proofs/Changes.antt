@@ -91,13 +91,13 @@ no_models = record { none = λ k bytes x rest e. absurd cc }
 modelless : {F : Type 0} (r : Reader F) {kinds : Kinds Change} → (n : ℕ) (into : F → Change) → ((f : F) → UploadsModel (into f)) → NoModels kinds → NoModels (kind_at n (made_at into r) kinds)
 modelless {F} r {kinds} n into none K = record {
   none = λ k bytes x rest e.
-    elim (chosen (eqb k n) (made_at into r bytes) (kinds k bytes) (Some (x, rest)) e) [
-      | inl p ↦
-        let a = then_some (r bytes) (λ f. Some (into f.0, f.1)) (x, rest) p.1 in
-        subst (λ (w : Change × List ℕ). UploadsModel w.0) (same_Some (into a.0.0, a.0.1) (x, rest) a.2)
-        (none a.0.0)
-      | inr p ↦ K.none k bytes x rest p.1
-    ];
+      elim (chosen (eqb k n) (made_at into r bytes) (kinds k bytes) (Some (x, rest)) e) [
+        | inl p ↦
+            let a = then_some (r bytes) (λ f. Some (into f.0, f.1)) (x, rest) p.1 in
+            subst (λ (w : Change × List ℕ). UploadsModel w.0) (same_Some (into a.0.0, a.0.1) (x, rest) a.2)
+            (none a.0.0)
+        | inr p ↦ K.none k bytes x rest p.1
+      ];
 }
 
 others_modelless : NoModels other_kinds

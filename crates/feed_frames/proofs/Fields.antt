@@ -47,7 +47,7 @@ number_takes w limit wide bytes n rest fits e =
     let front : IsBytes a.0.0 = IsBytes-front a.0.0 a.0.1 (subst (λ (l : List ℕ). IsBytes l) t.0.parts fits) in
     let back : to_be_bytes w (from_be_bytes w a.0.0) ≡ a.0.0 = wide.back a.0.0 t.1 front in
     let took : Takes bytes (to_be_bytes w (from_be_bytes w a.0.0)) a.0.1 =
-      subst (λ (l : List ℕ). Takes bytes l a.0.1) (sym back) t.0
+    subst (λ (l : List ℕ). Takes bytes l a.0.1) (sym back) t.0
     in
     subst (λ (p : ℕ × List ℕ). Takes bytes (to_be_bytes w p.0) p.1 × (p.0 < limit))
     (same_Some (from_be_bytes w a.0.0, a.0.1) (n, rest) a.2)
@@ -111,9 +111,10 @@ sized_takes bytes x rest fits e =
     let a = then_some (long_at bytes) (λ n. cut_at n.0 n.1) (x, rest) e in
     let first = long.takes bytes a.0.0 a.0.1 fits a.1 in
     let second = (cut a.0.0).takes a.0.1 x rest first.0.rest_fits a.2 in
-    let both = Takes-then bytes (long_bytes a.0.0) a.0.1 x rest first.0 second.0 in
-    (subst (λ (n : ℕ). Takes bytes (long_bytes n ++ x) rest) (sym second.1) both,
-    subst (λ (n : ℕ). IsLong n) (sym second.1) first.1)
+    let both = Takes-then bytes (long_bytes a.0.0) a.0.1 x rest first.0 second.0 in (
+      subst (λ (n : ℕ). Takes bytes (long_bytes n ++ x) rest) (sym second.1) both,
+      subst (λ (n : ℕ). IsLong n) (sym second.1) first.1,
+    )
 
 sized_again : (x rest : List ℕ) → IsLong (length x) → sized_at (text_bytes x ++ rest) ≡ Some (x, rest)
 unfolding text_bytes
@@ -169,9 +170,10 @@ counted_takes {A} {r} {s} {g} F bytes xs rest fits e =
     let a = then_some (long_at bytes) (λ n. items_at r n.0 n.1) (xs, rest) e in
     let first = long.takes bytes a.0.0 a.0.1 fits a.1 in
     let second = items_take F a.0.0 a.0.1 xs rest first.0.rest_fits a.2 in
-    let both = Takes-then bytes (long_bytes a.0.0) a.0.1 (flat_map s xs) rest first.0 second.0 in
-    (subst (λ (n : ℕ). Takes bytes (long_bytes n ++ flat_map s xs) rest) (sym second.1) both,
-    (subst (λ (n : ℕ). IsLong n) (sym second.1) first.1, All-from_recursion g xs second.2))
+    let both = Takes-then bytes (long_bytes a.0.0) a.0.1 (flat_map s xs) rest first.0 second.0 in (
+      subst (λ (n : ℕ). Takes bytes (long_bytes n ++ flat_map s xs) rest) (sym second.1) both,
+      (subst (λ (n : ℕ). IsLong n) (sym second.1) first.1, All-from_recursion g xs second.2),
+    )
 
 counted_again : {A : Type 0} {r : Reader A} {s : A → List ℕ} {g : A → Type 0} → IsFormat A r s g → (xs : List A) (rest : List ℕ) → FitsList g xs → counted_at r (counted_bytes s xs ++ rest) ≡ Some (xs, rest)
 unfolding counted_at counted_bytes

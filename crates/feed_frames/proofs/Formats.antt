@@ -41,16 +41,16 @@ Takes-then a x b y c p q = record {
 
 pub record IsFormat (A : Type 0) (read : Reader A) (spell : A → List ℕ) (good : A → Type 0) : Type 0 where
   pub takes :
-    (bytes : List ℕ) (x : A) (rest : List ℕ) → IsBytes bytes → read bytes ≡ Some (x, rest)
-    → Takes bytes (spell x) rest × good x
+      (bytes : List ℕ) (x : A) (rest : List ℕ) → IsBytes bytes → read bytes ≡ Some (x, rest)
+      → Takes bytes (spell x) rest × good x
   pub again : (x : A) (rest : List ℕ) → good x → read (spell x ++ rest) ≡ Some (x, rest)
 
 -- nothing
 pub nothing : IsFormat (Unit {0}) nothing_at (λ _. []) (λ _. Unit {0})
 nothing = record {
   takes = λ bytes x rest fits e.
-    let same : bytes ≡ rest = ap (λ (p : Unit {0} × List ℕ). p.1) (same_Some (tt, bytes) (x, rest) e) in
-    (record { parts = same; rest_fits = subst (λ (l : List ℕ). IsBytes l) same fits }, tt);
+      let same : bytes ≡ rest = ap (λ (p : Unit {0} × List ℕ). p.1) (same_Some (tt, bytes) (x, rest) e) in
+      (record { parts = same; rest_fits = subst (λ (l : List ℕ). IsBytes l) same fits }, tt);
   again = λ x rest good. refl;
 }
 
@@ -62,7 +62,7 @@ cut_takes n bytes x rest fits e =
     let len : length (take n bytes) ≡ n = omega (arith, length-take n bytes) in
     let whole : bytes ≡ take n bytes ++ drop n bytes = sym (take-append-drop n bytes) in
     let behind : IsBytes (drop n bytes) =
-      IsBytes-behind (take n bytes) (drop n bytes) (subst (λ (l : List ℕ). IsBytes l) whole fits)
+    IsBytes-behind (take n bytes) (drop n bytes) (subst (λ (l : List ℕ). IsBytes l) whole fits)
     in
     subst (λ (p : List ℕ × List ℕ). Takes bytes p.0 p.1 × (length p.0 ≡ n)) c.1
     (record { parts = whole; rest_fits = behind }, len)
@@ -91,7 +91,7 @@ both_again : {A B : Type 0} {r : Reader A} {s : A → List ℕ} {g : A → Type 
 both_again {A} {B} {r} {s} {g} {q} {t} {h} F G p rest good =
     ap (both_at r q) (append_assoc (s p.0) (t p.1) rest)
     ∙ ap (λ o. option_then o (λ x. option_then (q x.1) (λ y. Some ((x.0, y.0), y.1))))
-      (F.again p.0 (t p.1 ++ rest) good.0)
+    (F.again p.0 (t p.1 ++ rest) good.0)
     ∙ ap (λ o. option_then o (λ y. Some ((p.0, y.0), y.1))) (G.again p.1 rest good.1)
 
 pub both : {A B : Type 0} {r : Reader A} {s : A → List ℕ} {g : A → Type 0} {q : Reader B} {t : B → List ℕ} {h : B → Type 0} → IsFormat A r s g → IsFormat B q t h → IsFormat (A × B) (both_at r q) (λ p. s p.0 ++ t p.1) (λ p. g p.0 × h p.1)
@@ -103,7 +103,7 @@ made_takes {A} {B} {r} {s} {g} h F into out left fit bytes y rest fits e =
     let a = then_some (r bytes) (λ x. Some (into x.0, x.1)) (y, rest) e in
     let t = F.takes bytes a.0.0 a.0.1 fits a.1 in
     let back : Takes bytes (s (out (into a.0.0))) a.0.1 =
-      subst (λ (z : A). Takes bytes (s z) a.0.1) (sym (left a.0.0 t.1)) t.0
+    subst (λ (z : A). Takes bytes (s z) a.0.1) (sym (left a.0.0 t.1)) t.0
     in
     subst (λ (w : B × List ℕ). Takes bytes (s (out w.0)) w.1 × h w.0)
     (same_Some (into a.0.0, a.0.1) (y, rest) a.2)
@@ -116,8 +116,8 @@ pub made : {A B : Type 0} {r : Reader A} {s : A → List ℕ} {g : A → Type 0}
 made {A} {B} {r} {s} {g} {h} F into out left fit right fit_out = record {
   takes = made_takes h F into out left fit;
   again = λ y rest good.
-    into_again F into (out y) rest (fit_out y good)
-    ∙ ap (λ (z : B). Some (z, rest)) (right y good);
+      into_again F into (out y) rest (fit_out y good)
+      ∙ ap (λ (z : B). Some (z, rest)) (right y good);
 }
 
 -- a value that passes a test
@@ -133,15 +133,15 @@ pub checked : {A : Type 0} {r : Reader A} {s : A → List ℕ} {g : A → Type 0
 checked {A} F passes = record {
   takes = checked_takes F passes;
   again = λ y rest good.
-    ap (λ o. option_then o (λ x. cond (passes x.0) (Some x) None)) (F.again y rest good.0)
-    ∙ ap (λ (b : Bool). cond b (Some (y, rest)) None) good.1;
+      ap (λ o. option_then o (λ x. cond (passes x.0) (Some x) None)) (F.again y rest good.0)
+      ∙ ap (λ (b : Bool). cond b (Some (y, rest)) None) good.1;
 }
 
 -- the same format, of which other words say what is good
 pub good_as : {A : Type 0} {r : Reader A} {s : A → List ℕ} {g : A → Type 0} → IsFormat A r s g → (h : A → Type 0) → ((x : A) → g x → h x) → ((x : A) → h x → g x) → IsFormat A r s h
 good_as F h there back = record {
   takes = λ bytes x rest fits e.
-    let t = F.takes bytes x rest fits e in (t.0, there x t.1);
+      let t = F.takes bytes x rest fits e in (t.0, there x t.1);
   again = λ x rest good. F.again x rest (back x good);
 }
 
@@ -149,10 +149,10 @@ good_as F h there back = record {
 pub spelled_as : {A : Type 0} {r : Reader A} {s : A → List ℕ} {g : A → Type 0} → IsFormat A r s g → (t : A → List ℕ) → ((x : A) → s x ≡ t x) → IsFormat A r t g
 spelled_as {A} {r} F t same = record {
   takes = λ bytes x rest fits e.
-    let f = F.takes bytes x rest fits e in
-    (subst (λ (l : List ℕ). Takes bytes l rest) (same x) f.0, f.1);
+      let f = F.takes bytes x rest fits e in
+      (subst (λ (l : List ℕ). Takes bytes l rest) (same x) f.0, f.1);
   again = λ x rest good.
-    ap (λ (l : List ℕ). r (l ++ rest)) (sym (same x)) ∙ F.again x rest good;
+      ap (λ (l : List ℕ). r (l ++ rest)) (sym (same x)) ∙ F.again x rest good;
 }
 
 -- so many values
@@ -177,14 +177,14 @@ items_again F [] rest good = refl
 items_again {A} {r} {s} F (x ∷ xs) rest good =
     ap (items_at r (suc (length xs))) (append_assoc (s x) (flat_map s xs) rest)
     ∙ ap (λ o. option_then o (λ y. option_then (items_at r (length xs) y.1) (λ ys. Some (y.0 ∷ ys.0, ys.1))))
-      (F.again x (flat_map s xs ++ rest) good.0)
+    (F.again x (flat_map s xs ++ rest) good.0)
     ∙ ap (λ o. option_then o (λ ys. Some (x ∷ ys.0, ys.1))) (items_again F xs rest good.1)
 
 -- what stands behind a byte, by the byte
 pub record IsKinds (A : Type 0) (kinds : Kinds A) (kind : A → ℕ) (fields : A → List ℕ) (good : A → Type 0) : Type 0 where
   pub takes :
-    (k : ℕ) (bytes : List ℕ) (x : A) (rest : List ℕ) → IsBytes bytes → kinds k bytes ≡ Some (x, rest)
-    → (kind x ≡ k) × (Takes bytes (fields x) rest × good x)
+      (k : ℕ) (bytes : List ℕ) (x : A) (rest : List ℕ) → IsBytes bytes → kinds k bytes ≡ Some (x, rest)
+      → (kind x ≡ k) × (Takes bytes (fields x) rest × good x)
 
 pub no_kinds : {A : Type 0} {kind : A → ℕ} {fields : A → List ℕ} {good : A → Type 0} → IsKinds A no_kind kind fields good
 no_kinds = record { takes = λ k bytes x rest fits e. absurd cc }
@@ -197,15 +197,15 @@ kind_takes : {A F : Type 0} {others : Kinds A} {kind : A → ℕ} {fields : A �
 kind_takes {A} {F} {others} {kind} {fields} {good} {r} {s} {g} n into format kind_is fields_are good_is K k bytes x rest fits e =
     elim (chosen (eqb k n) (made_at into r bytes) (others k bytes) (Some (x, rest)) e) [
       | inl p ↦
-        let a = then_some (r bytes) (λ f. Some (into f.0, f.1)) (x, rest) p.1 in
-        let t = format.takes bytes a.0.0 a.0.1 fits a.1 in
-        let took : Takes bytes (fields (into a.0.0)) a.0.1 =
+          let a = then_some (r bytes) (λ f. Some (into f.0, f.1)) (x, rest) p.1 in
+          let t = format.takes bytes a.0.0 a.0.1 fits a.1 in
+          let took : Takes bytes (fields (into a.0.0)) a.0.1 =
           subst (λ (l : List ℕ). Takes bytes l a.0.1) (sym (fields_are a.0.0)) t.0
-        in
-        let number : kind (into a.0.0) ≡ k = kind_is a.0.0 ∙ sym (eqb-true _ _ p.0) in
-        subst (λ (w : A × List ℕ). (kind w.0 ≡ k) × (Takes bytes (fields w.0) w.1 × good w.0))
-        (same_Some (into a.0.0, a.0.1) (x, rest) a.2)
-        (number, (took, good_is a.0.0 t.1))
+          in
+          let number : kind (into a.0.0) ≡ k = kind_is a.0.0 ∙ sym (eqb-true _ _ p.0) in
+          subst (λ (w : A × List ℕ). (kind w.0 ≡ k) × (Takes bytes (fields w.0) w.1 × good w.0))
+          (same_Some (into a.0.0, a.0.1) (x, rest) a.2)
+          (number, (took, good_is a.0.0 t.1))
       | inr p ↦ K.takes k bytes x rest fits p.1
     ]
 
@@ -219,11 +219,13 @@ IsBytes-rest b bytes h i = h (suc i)
 kinds_take : {A : Type 0} {kinds : Kinds A} {kind : A → ℕ} {fields : A → List ℕ} {good : A → Type 0} → IsKinds A kinds kind fields good → (bytes : List ℕ) (x : A) (rest : List ℕ) → IsBytes bytes → kinds_at kinds bytes ≡ Some (x, rest) → Takes bytes (kind x ∷ fields x) rest × good x
 kinds_take K [] x rest fits e = absurd cc
 kinds_take {A} {kinds} {kind} {fields} K (b ∷ bytes) x rest fits e =
-    let t = K.takes b bytes x rest (IsBytes-rest b bytes fits) e in
-    (record {
-      parts = ap (λ (l : List ℕ). b ∷ l) t.1.0.parts ∙ ap (λ (k : ℕ). k ∷ (fields x ++ rest)) (sym t.0);
-      rest_fits = t.1.0.rest_fits;
-    }, t.1.1)
+    let t = K.takes b bytes x rest (IsBytes-rest b bytes fits) e in (
+      record {
+        parts = ap (λ (l : List ℕ). b ∷ l) t.1.0.parts ∙ ap (λ (k : ℕ). k ∷ (fields x ++ rest)) (sym t.0);
+        rest_fits = t.1.0.rest_fits;
+      },
+      t.1.1,
+    )
 
 pub kinds_format : {A : Type 0} {kinds : Kinds A} {kind : A → ℕ} {fields : A → List ℕ} {good : A → Type 0} → IsKinds A kinds kind fields good → ((x : A) (rest : List ℕ) → good x → kinds (kind x) (fields x ++ rest) ≡ Some (x, rest)) → IsFormat A (kinds_at kinds) (λ x. kind x ∷ fields x) good
 kinds_format K reads = record { takes = kinds_take K; again = reads }

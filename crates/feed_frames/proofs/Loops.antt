@@ -18,9 +18,9 @@ pub goes_on : {A : Type 0} (r : Reader A) (front : List A) (count i : ℕ) (byte
 goes_on {A} r front count i bytes x after total lt found so_far =
     let k : count - i ≡ suc (count - (i + 1)) = omega arith in
     let one : with_front front (items_at r (count - i) bytes) ≡ with_front (front ++ x ∷ []) (items_at r (count - (i + 1)) after) =
-      ap (λ (n : ℕ). with_front front (items_at r n bytes)) k
-      ∙ ap (λ o. with_front front (option_then o (λ y. option_then (items_at r (count - (i + 1)) y.1) (λ ys. Some (y.0 ∷ ys.0, ys.1))))) found
-      ∙ regroup front x (items_at r (count - (i + 1)) after)
+    ap (λ (n : ℕ). with_front front (items_at r n bytes)) k
+    ∙ ap (λ o. with_front front (option_then o (λ y. option_then (items_at r (count - (i + 1)) y.1) (λ ys. Some (y.0 ∷ ys.0, ys.1))))) found
+    ∙ regroup front x (items_at r (count - (i + 1)) after)
     in
     sym one ∙ so_far
 

@@ -285,12 +285,19 @@ topic =
       description = p.1.1.1.1.1.1.1.1.0;
       due = p.1.1.1.1.1.1.1.1.1;
     })
-    (λ (t : TopicBody).
-      (t.title,
-      (t.topic_type,
-      (t.topic_status,
-      (t.priority,
-      (t.index, (t.labels, (t.assigned_to, (t.stage, (t.description, t.due))))))))))
+    (λ (t : TopicBody). (
+      t.title,
+      (
+        t.topic_type,
+        (
+          t.topic_status,
+          (
+            t.priority,
+            (t.index, (t.labels, (t.assigned_to, (t.stage, (t.description, t.due))))),
+          ),
+        ),
+      ),
+    ))
     (λ x p. refl) (λ x p. p) (λ y p. refl) (λ y p. p)
 
 pub comment : IsFormat CommentBody comment_at comment_bytes FitsComment

@@ -16,13 +16,15 @@ pub found : (bytes : List ℕ) (e : Entry) (rest : List ℕ) → IsBytes bytes �
 found bytes e rest fits short read empty models =
     let t = entry_format.takes bytes e rest fits read in
     let whole : bytes ≡ payload e =
-      t.0.parts ∙ ap (λ (l : List ℕ). payload e ++ l) empty ∙ append-nil (payload e)
-    in
-    (record {
-      fits = t.1;
-      models = models;
-      counted = subst (λ (l : List ℕ). IsLong (length l)) whole short;
-    }, sym whole)
+    t.0.parts ∙ ap (λ (l : List ℕ). payload e ++ l) empty ∙ append-nil (payload e)
+    in (
+      record {
+        fits = t.1;
+        models = models;
+        counted = subst (λ (l : List ℕ). IsLong (length l)) whole short;
+      },
+      sym whole,
+    )
 
 -- what an entry spells is read
 read_again : (bytes : List ℕ) (e : Entry) → IsEntry e → payload e ≡ bytes → entry_at bytes ≡ Some (e, [])

@@ -75,7 +75,11 @@ fn take_post_topic(alloc: Global, unread: &mut Unread) -> Result<Change, ReadErr
     let body = TopicBody::read_from(alloc, unread)?;
     let author = Author::read_from(alloc, unread)?;
     let weight = unread.long()?;
-    Ok(Change::PostTopic { body, author, weight })
+    Ok(Change::PostTopic {
+        body,
+        author,
+        weight,
+    })
 }
 
 #[tactic(auto, unfolding(crate::specs::inner::EntryReaders::put_topic_at))]
@@ -86,7 +90,12 @@ fn take_put_topic(alloc: Global, unread: &mut Unread) -> Result<Change, ReadErro
     let body = TopicBody::read_from(alloc, unread)?;
     let author = Author::read_from(alloc, unread)?;
     let weight = unread.long()?;
-    Ok(Change::PutTopic { topic, body, author, weight })
+    Ok(Change::PutTopic {
+        topic,
+        body,
+        author,
+        weight,
+    })
 }
 
 #[tactic(auto, unfolding(crate::specs::inner::EntryReaders::delete_topic_at))]
@@ -105,7 +114,12 @@ fn take_post_comment(alloc: Global, unread: &mut Unread) -> Result<Change, ReadE
     let body = CommentBody::read_from(alloc, unread)?;
     let author = Author::read_from(alloc, unread)?;
     let weight = unread.long()?;
-    Ok(Change::PostComment { topic, body, author, weight })
+    Ok(Change::PostComment {
+        topic,
+        body,
+        author,
+        weight,
+    })
 }
 
 #[tactic(auto, unfolding(crate::specs::inner::EntryReaders::put_comment_at))]
@@ -117,7 +131,13 @@ fn take_put_comment(alloc: Global, unread: &mut Unread) -> Result<Change, ReadEr
     let body = CommentBody::read_from(alloc, unread)?;
     let author = Author::read_from(alloc, unread)?;
     let weight = unread.long()?;
-    Ok(Change::PutComment { topic, comment, body, author, weight })
+    Ok(Change::PutComment {
+        topic,
+        comment,
+        body,
+        author,
+        weight,
+    })
 }
 
 #[tactic(auto, unfolding(crate::specs::inner::EntryReaders::delete_comment_at))]
@@ -136,7 +156,11 @@ fn take_post_view(alloc: Global, unread: &mut Unread) -> Result<Change, ReadErro
     let topic = unread.long()?;
     let body = take_view(alloc, unread)?;
     let weight = unread.long()?;
-    Ok(Change::PostView { topic, body, weight })
+    Ok(Change::PostView {
+        topic,
+        body,
+        weight,
+    })
 }
 
 #[tactic(auto, unfolding(crate::specs::inner::EntryReaders::delete_view_at))]
@@ -156,7 +180,12 @@ fn take_clash_topic(alloc: Global, unread: &mut Unread) -> Result<Change, ReadEr
     let place = unread.long()?;
     let author = Author::read_from(alloc, unread)?;
     let weight = unread.long()?;
-    Ok(Change::ClashTopic { version, place, author, weight })
+    Ok(Change::ClashTopic {
+        version,
+        place,
+        author,
+        weight,
+    })
 }
 
 // A change other than an upload, by the byte of its kind.

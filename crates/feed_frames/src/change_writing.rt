@@ -3,8 +3,8 @@ ghost use Rattle.std.specs.Prelude.{◌≡◌, ◌++◌, OnOk};
 ghost use Rattle.book_history.specs.declared.changes.Change.{Change};
 ghost use Rattle.feed_frames.specs.EntryBytes.{kind_of, fields_of, change_bytes};
 
-use crate::plain_fields::put_list;
 use crate::field::Field;
+use crate::plain_fields::put_list;
 use bcf_topics::{CommentBody, TopicBody};
 use bcf_viewpoints::CheckedBody;
 use bim_model::{Author, Model, Rules, Text};
@@ -33,7 +33,12 @@ fn put_bucket_done(version: u64, cell: Cell, out: &mut Vec<u8>) -> Result<(), Al
     cell.write_to(out)
 }
 
-fn put_post_topic(body: &TopicBody, author: &Author, weight: u64, out: &mut Vec<u8>) -> Result<(), AllocError>
+fn put_post_topic(
+    body: &TopicBody,
+    author: &Author,
+    weight: u64,
+    out: &mut Vec<u8>,
+) -> Result<(), AllocError>
     ensures { OnOk result (out.new.items ≡ out.old.items ++ fields_of (Change.PostTopic body.now author.now weight)) }
 {
     body.write_to(out)?;
@@ -41,7 +46,13 @@ fn put_post_topic(body: &TopicBody, author: &Author, weight: u64, out: &mut Vec<
     weight.write_to(out)
 }
 
-fn put_put_topic(topic: u64, body: &TopicBody, author: &Author, weight: u64, out: &mut Vec<u8>) -> Result<(), AllocError>
+fn put_put_topic(
+    topic: u64,
+    body: &TopicBody,
+    author: &Author,
+    weight: u64,
+    out: &mut Vec<u8>,
+) -> Result<(), AllocError>
     ensures { OnOk result (out.new.items ≡ out.old.items ++ fields_of (Change.PutTopic topic body.now author.now weight)) }
 {
     topic.write_to(out)?;
@@ -50,7 +61,13 @@ fn put_put_topic(topic: u64, body: &TopicBody, author: &Author, weight: u64, out
     weight.write_to(out)
 }
 
-fn put_post_comment(topic: u64, body: &CommentBody, author: &Author, weight: u64, out: &mut Vec<u8>) -> Result<(), AllocError>
+fn put_post_comment(
+    topic: u64,
+    body: &CommentBody,
+    author: &Author,
+    weight: u64,
+    out: &mut Vec<u8>,
+) -> Result<(), AllocError>
     ensures { OnOk result (out.new.items ≡ out.old.items ++ fields_of (Change.PostComment topic body.now author.now weight)) }
 {
     topic.write_to(out)?;
@@ -59,7 +76,14 @@ fn put_post_comment(topic: u64, body: &CommentBody, author: &Author, weight: u64
     weight.write_to(out)
 }
 
-fn put_put_comment(topic: u64, comment: u64, body: &CommentBody, author: &Author, weight: u64, out: &mut Vec<u8>) -> Result<(), AllocError>
+fn put_put_comment(
+    topic: u64,
+    comment: u64,
+    body: &CommentBody,
+    author: &Author,
+    weight: u64,
+    out: &mut Vec<u8>,
+) -> Result<(), AllocError>
     ensures { OnOk result (out.new.items ≡ out.old.items ++ fields_of (Change.PutComment topic comment body.now author.now weight)) }
 {
     topic.write_to(out)?;
@@ -76,7 +100,12 @@ fn put_delete_comment(topic: u64, comment: u64, out: &mut Vec<u8>) -> Result<(),
     comment.write_to(out)
 }
 
-fn put_post_view(topic: u64, body: &CheckedBody, weight: u64, out: &mut Vec<u8>) -> Result<(), AllocError>
+fn put_post_view(
+    topic: u64,
+    body: &CheckedBody,
+    weight: u64,
+    out: &mut Vec<u8>,
+) -> Result<(), AllocError>
     ensures { OnOk result (out.new.items ≡ out.old.items ++ fields_of (Change.PostView topic body.now weight)) }
 {
     topic.write_to(out)?;
@@ -91,7 +120,13 @@ fn put_delete_view(topic: u64, view: u64, out: &mut Vec<u8>) -> Result<(), Alloc
     view.write_to(out)
 }
 
-fn put_clash_topic(version: u64, place: u64, author: &Author, weight: u64, out: &mut Vec<u8>) -> Result<(), AllocError>
+fn put_clash_topic(
+    version: u64,
+    place: u64,
+    author: &Author,
+    weight: u64,
+    out: &mut Vec<u8>,
+) -> Result<(), AllocError>
     ensures { OnOk result (out.new.items ≡ out.old.items ++ fields_of (Change.ClashTopic version place author.now weight)) }
 {
     version.write_to(out)?;
@@ -130,15 +165,44 @@ fn put_fields(change: &Change, out: &mut Vec<u8>) -> Result<(), AllocError>
         Change::Remove { name } => name.write_to(out),
         Change::SetRules { rules, weight } => put_set_rules(rules.get(), *weight, out),
         Change::BucketDone { version, cell } => put_bucket_done(*version, *cell, out),
-        Change::PostTopic { body, author, weight } => put_post_topic(body, author, *weight, out),
-        Change::PutTopic { topic, body, author, weight } => put_put_topic(*topic, body, author, *weight, out),
+        Change::PostTopic {
+            body,
+            author,
+            weight,
+        } => put_post_topic(body, author, *weight, out),
+        Change::PutTopic {
+            topic,
+            body,
+            author,
+            weight,
+        } => put_put_topic(*topic, body, author, *weight, out),
         Change::DeleteTopic { topic } => topic.write_to(out),
-        Change::PostComment { topic, body, author, weight } => put_post_comment(*topic, body, author, *weight, out),
-        Change::PutComment { topic, comment, body, author, weight } => put_put_comment(*topic, *comment, body, author, *weight, out),
+        Change::PostComment {
+            topic,
+            body,
+            author,
+            weight,
+        } => put_post_comment(*topic, body, author, *weight, out),
+        Change::PutComment {
+            topic,
+            comment,
+            body,
+            author,
+            weight,
+        } => put_put_comment(*topic, *comment, body, author, *weight, out),
         Change::DeleteComment { topic, comment } => put_delete_comment(*topic, *comment, out),
-        Change::PostView { topic, body, weight } => put_post_view(*topic, body, *weight, out),
+        Change::PostView {
+            topic,
+            body,
+            weight,
+        } => put_post_view(*topic, body, *weight, out),
         Change::DeleteView { topic, view } => put_delete_view(*topic, *view, out),
-        Change::ClashTopic { version, place, author, weight } => put_clash_topic(*version, *place, author, *weight, out),
+        Change::ClashTopic {
+            version,
+            place,
+            author,
+            weight,
+        } => put_clash_topic(*version, *place, author, *weight, out),
     }
 }
 

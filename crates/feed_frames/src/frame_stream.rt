@@ -30,6 +30,21 @@ impl Model for Frames {
     ghost invariant = { λ f. (f.start ≤ length f.buf.items) × (f.at + (length f.buf.items - f.start) < 2 ^ 64) };
 }
 
+// Drops the bytes before the place, once they are half of the buffer, and answers the place of those behind.
+fn compact(buf: &mut Vec<u8>, at: usize) -> usize
+    requires { at ≤ length buf.old.items }
+    ensures place { result ≤ length buf.new.items }
+    ensures bytes { drop result buf.new.items ≡ drop at buf.old.items }
+{
+    let rest = buf.len() - at;
+    if at < rest {
+        return at;
+    }
+    buf.as_mut_slice().copy_within(at.., 0);
+    buf.truncate(rest);
+    0
+}
+
 // The payload of a frame that stands whole at the front.
 fn whole_payload(bytes: &[u8]) -> Option<&[u8]>
     ensures { MatchOption result (IsPartial bytes.now) (λ payload.
@@ -71,8 +86,7 @@ impl Frames {
         ensures ok { OnOk result (self.new.rest ≡ self.old.rest ++ piece.now) }
         ensures err { OnErr result (self.new.rest ≡ self.old.rest) }
     {
-        self.buf.drain(..self.start);
-        self.start = 0;
+        self.start = compact(&mut self.buf, self.start);
         self.buf.extend_from_slice(piece)
     }
 

@@ -122,11 +122,7 @@ pub(crate) fn put_list<T: Field>(items: &[T], out: &mut Vec<u8>) -> Result<(), A
 }
 
 // So many items.
-fn items_of<T: Field>(
-    alloc: Global,
-    count: u64,
-    unread: &mut Unread,
-) -> Result<Items<T>, ReadError>
+fn items_of<T: Field>(alloc: Global, count: u64, unread: &mut Unread) -> Result<Items<T>, ReadError>
     ensures { Gives result unread.new (items_at T.reading count unread.old) }
 {
     let mut items = Items::new(alloc);

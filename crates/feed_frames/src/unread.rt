@@ -20,8 +20,7 @@ impl<'a> Model for Unread<'a> {
 
 fn are_bytes(bytes: &[u8])
     ensures { (i : ℕ) → slice_index bytes.now i < 256 }
-{
-}
+{}
 
 impl<'a> Unread<'a> {
     ghost use Rattle.std.specs.Prelude.{◌≡◌, ◌==◌, length, IfOk};
