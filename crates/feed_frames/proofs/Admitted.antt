@@ -1,6 +1,5 @@
 -- From what the parts of a reading give to what the whole admits.
 use Rattle.std.proofs.Common.{◌≡◌, ℕ, eqb, Bool, true, false, cond, List, [], ◌∷◌, Option, Some, None, Result, Ok, Err, refl, sym, ap, subst, ◌∙◌}
-use Rattle.std.specs.Str.{is_utf8}
 use Rattle.std.proofs.lemmas.Bool.{eqb-true}
 use Rattle.std.proofs.lemmas.Option.{same_Some}
 use Rattle.bim_model.specs.Models.{IsModel}
@@ -12,9 +11,8 @@ use Rattle.book_history.specs.declared.changes.Entry.{Entry}
 use Rattle.feed_frames.specs.declared.read_error.ReadError.{ReadError}
 use Rattle.feed_frames.specs.declared.read_error.ReadError.TheVariants.{NotSpelled, Memory}
 use Rattle.feed_frames.specs.SpelledEntries.{UploadsModel, UploadsModelOf}
-use Rattle.feed_frames.specs.inner.Readers.{Reader, option_then, byte_at, cut_at, both_at, Fails, Gives, Refuses, Admits}
-use Rattle.feed_frames.specs.inner.FieldReaders.{long_at, text_at}
-use Rattle.feed_frames.specs.inner.EntryReaders.{named_elements_at, upload_at, other_kinds, change_at, head_at, entry_at}
+use Rattle.feed_frames.specs.inner.Readers.{Reader, option_then, byte_at, Fails, Gives, Refuses, Admits}
+use Rattle.feed_frames.specs.inner.EntryReaders.{named_elements_at, upload_at, other_kinds, all_kinds, change_at, head_at, body_at, entry_at, MakesUpload}
 use Rattle.feed_frames.proofs.Formats.{then_some}
 use Rattle.feed_frames.proofs.Changes.{no_model_is_read}
 
@@ -31,69 +29,53 @@ pub given_admitted : {A : Type 0} (good : A → Type 0) (r : Result A ReadError)
 given_admitted good (Ok x) left read given meets = (given, meets x left given)
 given_admitted good (Err e) left read given meets = none_refused good e read given
 
--- ---- texts
-
-pub text_is : (old : List ℕ) (n : ℕ) (mid bytes rest : List ℕ) → long_at old ≡ Some (n, mid) → cut_at n mid ≡ Some (bytes, rest) → is_utf8 bytes ≡ true → text_at old ≡ Some (bytes, rest)
-unfolding text_at
-text_is old n mid bytes rest count cut good =
-    let sized : option_then (long_at old) (λ x. cut_at x.0 x.1) ≡ Some (bytes, rest) =
-    ap (λ o. option_then o (λ x. cut_at x.0 x.1)) count ∙ cut
-    in
-    ap (λ o. option_then o (λ x. cond (is_utf8 x.0) (Some x) None)) sized
-    ∙ ap (λ (b : Bool). cond b (Some (bytes, rest)) None) good
-
-pub no_text_is : (old : List ℕ) (n : ℕ) (mid bytes rest : List ℕ) → long_at old ≡ Some (n, mid) → cut_at n mid ≡ Some (bytes, rest) → is_utf8 bytes ≡ false → text_at old ≡ None
-unfolding text_at
-no_text_is old n mid bytes rest count cut bad =
-    let sized : option_then (long_at old) (λ x. cut_at x.0 x.1) ≡ Some (bytes, rest) =
-    ap (λ o. option_then o (λ x. cut_at x.0 x.1)) count ∙ cut
-    in
-    ap (λ o. option_then o (λ x. cond (is_utf8 x.0) (Some x) None)) sized
-    ∙ ap (λ (b : Bool). cond b (Some (bytes, rest)) None) bad
-
 -- ---- uploads
 
 -- the parts of an upload are its change
-pub upload_is : (old name : List ℕ) (elements : List Element) (rest : List ℕ) → named_elements_at old ≡ Some ((name, elements), rest) → upload_at old ≡ Some (change.Upload name elements, rest)
+upload_is : (old name : List ℕ) (elements : List Element) (rest : List ℕ) → named_elements_at old ≡ Some ((name, elements), rest) → upload_at old ≡ Some (change.Upload name elements, rest)
 unfolding upload_at
 upload_is old name elements rest read =
     ap (λ o. option_then o (λ x. Some (change.Upload x.0.0 x.0.1, x.1))) read
 
-pub upload_refused : (old name : List ℕ) (elements : List Element) (rest : List ℕ) → named_elements_at old ≡ Some ((name, elements), rest) → (IsModel elements → ⊥) → Refuses UploadsModel NotSpelled (upload_at old)
-upload_refused old name elements rest read no =
-    λ x left found model.
-    let same : change.Upload name elements ≡ x =
-    ap (λ (w : Change × List ℕ). w.0)
-    (same_Some (change.Upload name elements, rest) (x, left) (sym (upload_is old name elements rest read) ∙ found))
-    in
-    no (subst (λ (c : Change). UploadsModel c) (sym same) model)
-
-pub upload_fails : (e : ReadError) (old : List ℕ) → Fails e (named_elements_at old) → Fails e (upload_at old)
+pub upload_fails : (e : ReadError) (old : List ℕ) → Fails e (named_elements_at old) → Refuses UploadsModel e (upload_at old)
 unfolding upload_at
 upload_fails Memory old failed = tt
 upload_fails NotSpelled old failed =
-    ap (λ o. option_then o (λ x. Some (change.Upload x.0.0 x.0.1, x.1))) failed
+    none_refused UploadsModel NotSpelled (upload_at old)
+    (ap (λ o. option_then o (λ x. Some (change.Upload x.0.0 x.0.1, x.1))) failed)
+
+pub upload_admitted : (old : List ℕ) (parts : List ℕ × List Element) (rest : List ℕ) (r : Result Change ReadError) → named_elements_at old ≡ Some (parts, rest) → MakesUpload parts.0 parts.1 r → Admits UploadsModel r rest (upload_at old)
+upload_admitted old parts rest (Ok c) read made = (
+  upload_is old parts.0 parts.1 rest read ∙ ap (λ (x : Change). Some (x, rest)) (sym made.0),
+  subst (λ (x : Change). UploadsModel x) (sym made.0) made.1,
+)
+upload_admitted old parts rest (Err Memory) read made = tt
+upload_admitted old parts rest (Err NotSpelled) read made =
+    λ x left found model.
+    let same : change.Upload parts.0 parts.1 ≡ x =
+    ap (λ (w : Change × List ℕ). w.0)
+    (same_Some (change.Upload parts.0 parts.1, rest) (x, left) (sym (upload_is old parts.0 parts.1 rest read) ∙ found))
+    in
+    made (subst (λ (c : Change). UploadsModel c) (sym same) model)
 
 -- ---- changes
 
-pub change_fails : (e : ReadError) (old : List ℕ) → Fails e (byte_at old) → Fails e (change_at old)
+pub change_fails : (e : ReadError) (old : List ℕ) → Fails e (byte_at old) → Refuses UploadsModel e (change_at old)
 unfolding change_at
 change_fails Memory old failed = tt
 change_fails NotSpelled old failed =
-    ap (λ o. option_then o (λ b. cond (eqb b.0 1) (upload_at b.1) (other_kinds b.0 b.1))) failed
+    none_refused UploadsModel NotSpelled (change_at old)
+    (ap (λ o. option_then o (λ b. all_kinds b.0 b.1)) failed)
 
-byte_first : (old : List ℕ) (kind : ℕ) (mid : List ℕ) → byte_at old ≡ Some (kind, mid) → change_at old ≡ cond (eqb kind 1) (upload_at mid) (other_kinds kind mid)
+pub change_admitted : (old : List ℕ) (kind : ℕ) (mid : List ℕ) (r : Result Change ReadError) (left : List ℕ) → byte_at old ≡ Some (kind, mid) → Admits UploadsModel r left (all_kinds kind mid) → Admits UploadsModel r left (change_at old)
 unfolding change_at
-byte_first old kind mid read =
-    ap (λ o. option_then o (λ b. cond (eqb b.0 1) (upload_at b.1) (other_kinds b.0 b.1))) read
-
-pub change_uploads : (old : List ℕ) (kind : ℕ) (mid : List ℕ) (r : Result Change ReadError) (left : List ℕ) → byte_at old ≡ Some (kind, mid) → kind ≡ 1 → Admits UploadsModel r left (upload_at mid) → Admits UploadsModel r left (change_at old)
-change_uploads old kind mid r left read one admits =
-    let same : change_at old ≡ upload_at mid =
-    byte_first old kind mid read
-    ∙ ap (λ (k : ℕ). cond (eqb k 1) (upload_at mid) (other_kinds kind mid)) one
-    in
+change_admitted old kind mid r left read admits =
+    let same : change_at old ≡ all_kinds kind mid = ap (λ o. option_then o (λ b. all_kinds b.0 b.1)) read in
     subst (λ (o : Option (Change × List ℕ)). Admits UploadsModel r left o) (sym same) admits
+
+pub first_admitted : (kind : ℕ) (mid : List ℕ) (r : Result Change ReadError) (left : List ℕ) → kind ≡ 1 → Admits UploadsModel r left (upload_at mid) → Admits UploadsModel r left (all_kinds kind mid)
+first_admitted kind mid r left one admits =
+    subst (λ (k : ℕ). Admits UploadsModel r left (all_kinds k mid)) (sym one) admits
 
 not_one : (k : ℕ) → (k ≡ 1 → ⊥) → eqb k 1 ≡ false
 not_one k not =
@@ -102,48 +84,46 @@ not_one k not =
       | false ↦ λ e. refl
     ] refl
 
-pub change_others : (old : List ℕ) (kind : ℕ) (mid : List ℕ) (r : Result Change ReadError) (left : List ℕ) → byte_at old ≡ Some (kind, mid) → (kind ≡ 1 → ⊥) → Gives r left (other_kinds kind mid) → Admits UploadsModel r left (change_at old)
-change_others old kind mid r left read other given =
-    let same : change_at old ≡ other_kinds kind mid =
-    byte_first old kind mid read
-    ∙ ap (λ (b : Bool). cond b (upload_at mid) (other_kinds kind mid)) (not_one kind other)
+pub other_admitted : (kind : ℕ) (mid : List ℕ) (r : Result Change ReadError) (left : List ℕ) → (kind ≡ 1 → ⊥) → Gives r left (other_kinds kind mid) → Admits UploadsModel r left (all_kinds kind mid)
+other_admitted kind mid r left other given =
+    let same : all_kinds kind mid ≡ other_kinds kind mid =
+    ap (λ (b : Bool). cond b (upload_at mid) (other_kinds kind mid)) (not_one kind other)
     in
     subst (λ (o : Option (Change × List ℕ)). Admits UploadsModel r left o) (sym same)
     (given_admitted UploadsModel r left (other_kinds kind mid) given (no_model_is_read kind mid))
 
 -- ---- entries
 
-abbrev entry_of : ((Stamp × ℕ) × Change) → Entry
-entry_of p = record { stamp = p.0.0; project = p.0.1; change = p.1 }
+abbrev entry_by : (Stamp × ℕ) → Change → Entry
+entry_by head c = record { stamp = head.0; project = head.1; change = c }
+
+pub body_refused : (e : ReadError) (head : Stamp × ℕ) (mid : List ℕ) → Refuses UploadsModel e (change_at mid) → Refuses UploadsModelOf e (body_at head mid)
+body_refused Memory head mid refused = tt
+body_refused NotSpelled head mid refused =
+    λ x rest found model.
+    let a = then_some (change_at mid) (λ y. Some (entry_by head y.0, y.1)) (x, rest) found in
+    let same = same_Some (entry_by head a.0.0, a.0.1) (x, rest) a.2 in
+    refused a.0.0 a.0.1 a.1 (subst (λ (w : Entry × List ℕ). UploadsModelOf w.0) (sym same) model)
+
+pub body_is : (head : Stamp × ℕ) (mid : List ℕ) (c : Change) (rest : List ℕ) → change_at mid ≡ Some (c, rest) → body_at head mid ≡ Some (entry_by head c, rest)
+body_is head mid c rest read = ap (λ o. option_then o (λ y. Some (entry_by head y.0, y.1))) read
+
+twice : (head : Stamp × ℕ) (o : Option (Change × List ℕ)) → option_then (option_then o (λ y. Some ((head, y.0), y.1))) (λ z. Some (entry_by z.0.0 z.0.1, z.1)) ≡ option_then o (λ y. Some (entry_by head y.0, y.1))
+twice head None = refl
+twice head (Some y) = refl
 
 pub entry_fails : (e : ReadError) (old : List ℕ) → Fails e (head_at old) → Refuses UploadsModelOf e (entry_at old)
 unfolding entry_at
 entry_fails Memory old failed = tt
 entry_fails NotSpelled old failed =
     none_refused UploadsModelOf NotSpelled (entry_at old)
-    (ap (λ o. option_then (option_then o (λ x. option_then (change_at x.1) (λ y. Some ((x.0, y.0), y.1)))) (λ z. Some (entry_of z.0, z.1))) failed)
+    (ap (λ o. option_then (option_then o (λ x. option_then (change_at x.1) (λ y. Some ((x.0, y.0), y.1)))) (λ z. Some (entry_by z.0.0 z.0.1, z.1))) failed)
 
-twice : (head : Stamp × ℕ) (o : Option (Change × List ℕ)) → option_then (option_then o (λ y. Some ((head, y.0), y.1))) (λ z. Some (entry_of z.0, z.1)) ≡ option_then o (λ y. Some (entry_of (head, y.0), y.1))
-twice head None = refl
-twice head (Some y) = refl
-
-head_first : (old : List ℕ) (head : Stamp × ℕ) (mid : List ℕ) → head_at old ≡ Some (head, mid) → entry_at old ≡ option_then (change_at mid) (λ y. Some (entry_of (head, y.0), y.1))
+pub entry_admitted : (old : List ℕ) (head : Stamp × ℕ) (mid : List ℕ) (r : Result Entry ReadError) (left : List ℕ) → head_at old ≡ Some (head, mid) → Admits UploadsModelOf r left (body_at head mid) → Admits UploadsModelOf r left (entry_at old)
 unfolding entry_at
-head_first old head mid read =
-    ap (λ o. option_then (option_then o (λ x. option_then (change_at x.1) (λ y. Some ((x.0, y.0), y.1)))) (λ z. Some (entry_of z.0, z.1))) read
+entry_admitted old head mid r left read admits =
+    let same : entry_at old ≡ body_at head mid =
+    ap (λ o. option_then (option_then o (λ x. option_then (change_at x.1) (λ y. Some ((x.0, y.0), y.1)))) (λ z. Some (entry_by z.0.0 z.0.1, z.1))) read
     ∙ twice head (change_at mid)
-
-pub entry_is : (old : List ℕ) (head : Stamp × ℕ) (mid : List ℕ) (c : Change) (rest : List ℕ) → head_at old ≡ Some (head, mid) → change_at mid ≡ Some (c, rest) → entry_at old ≡ Some (entry_of (head, c), rest)
-entry_is old head mid c rest first second =
-    head_first old head mid first
-    ∙ ap (λ o. option_then o (λ y. Some (entry_of (head, y.0), y.1))) second
-
-pub entry_refused : (e : ReadError) (old : List ℕ) (head : Stamp × ℕ) (mid : List ℕ) → head_at old ≡ Some (head, mid) → Refuses UploadsModel e (change_at mid) → Refuses UploadsModelOf e (entry_at old)
-entry_refused Memory old head mid first refused = tt
-entry_refused NotSpelled old head mid first refused =
-    λ x rest found model.
-    let a = then_some (change_at mid) (λ y. Some (entry_of (head, y.0), y.1)) (x, rest)
-    (sym (head_first old head mid first) ∙ found)
     in
-    let same = same_Some (entry_of (head, a.0.0), a.0.1) (x, rest) a.2 in
-    refused a.0.0 a.0.1 a.1 (subst (λ (w : Entry × List ℕ). UploadsModelOf w.0) (sym same) model)
+    subst (λ (o : Option (Entry × List ℕ)). Admits UploadsModelOf r left o) (sym same) admits

@@ -2,7 +2,9 @@
 use Rattle.std.proofs.Common.{◌≡◌, ℕ, ◌≤◌, Bool, true, false, List, length, All, Option, Some, None, refl, arith}
 use Rattle.std.specs.Prelude.{IfSome}
 use Rattle.std.specs.Str.{IsUtf8, is_utf8}
-use Rattle.std.proofs.lemmas.Str.{IsUtf8-from_is_utf8}
+use Rattle.std.proofs.lemmas.Str.{IsUtf8-from_is_utf8, is_utf8-from_IsUtf8}
+use Rattle.std.specs.List.{list_all}
+use Rattle.bim_model.specs.Guids.{IsGuid, is_guid_char}
 use Rattle.bim_model.specs.Rules.{IsClassTest, IsRule, IsRules, distance_of}
 use Rattle.bim_model.specs.declared.limits.TheConstants.{MOST_RULES, MOST_DISTANCE, MOST_LEVEL}
 use Rattle.bim_model.specs.declared.rules.ClassTest.{ClassTest}
@@ -27,6 +29,17 @@ pub fails_utf8 : (bytes : List ℕ) → (IsUtf8 bytes → ⊥) → is_utf8 bytes
 fails_utf8 bytes not =
     elim (is_utf8 bytes) as (λ b. is_utf8 bytes ≡ b → b ≡ false) [
       | true ↦ λ e. absurd (not (IsUtf8-from_is_utf8 bytes e))
+      | false ↦ λ e. refl
+    ] refl
+
+pub passes_utf8 : (bytes : List ℕ) → IsUtf8 bytes → is_utf8 bytes ≡ true
+passes_utf8 bytes good = is_utf8-from_IsUtf8 bytes good
+
+-- characters of which no identifier was read, and of which one was
+pub no_guid : (cs : List ℕ) → length cs ≡ 22 → (IsGuid cs → ⊥) → list_all is_guid_char cs ≡ false
+no_guid cs len not =
+    elim (list_all is_guid_char cs) as (λ b. list_all is_guid_char cs ≡ b → b ≡ false) [
+      | true ↦ λ e. absurd (not (len, e))
       | false ↦ λ e. refl
     ] refl
 

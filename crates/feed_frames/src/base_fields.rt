@@ -1,4 +1,8 @@
 //! Texts, identifiers, moments and who made a change.
+ghost use Rattle.std.specs.Prelude.{◌≡◌, length, true, false, MatchOption};
+ghost use Rattle.std.specs.List.{list_all};
+ghost use Rattle.std.specs.Str.{is_utf8};
+ghost use Rattle.bim_model.specs.Guids.{is_guid_char};
 ghost use Rattle.feed_frames.specs.FieldBytes.{text_bytes, long_bytes};
 ghost use Rattle.feed_frames.specs.EntryBytes.{guid_bytes, author_bytes};
 ghost use Rattle.feed_frames.specs.inner.FieldReaders.{text_at};
@@ -9,6 +13,17 @@ use crate::read_error::ReadError;
 use crate::unread::Unread;
 use bim_model::{Author, Guid, Moment, Text};
 use std::alloc::{AllocError, Global};
+
+// The text that bytes are, if they are UTF-8.
+fn text_of(bytes: &[u8]) -> Option<&str>
+    ensures { MatchOption result (is_utf8 bytes.now ≡ false)
+        (λ text. (text.now ≡ bytes.now) × (is_utf8 bytes.now ≡ true)) }
+{
+    match str::from_utf8(bytes) {
+        Ok(text) => Some(text),
+        Err(_) => None,
+    }
+}
 
 impl Field for Text {
     ghost spelling = { text_bytes };
@@ -27,13 +42,25 @@ impl Field for Text {
     fn read_from(alloc: Global, unread: &mut Unread) -> Result<Text, ReadError> {
         let count = unread.long()?;
         let bytes = unread.cut(count)?;
-        match str::from_utf8(bytes) {
-            Ok(text) => {
+        match text_of(bytes) {
+            Some(text) => {
                 let text = Text::of(alloc, text)?;
                 Ok(text)
             }
-            Err(_) => Err(ReadError::NotSpelled),
+            None => Err(ReadError::NotSpelled),
         }
+    }
+}
+
+// The identifier that 22 bytes are, if they are characters of its alphabet.
+fn guid_of(chars: &[u8]) -> Option<Guid>
+    requires { length chars.now ≡ 22 }
+    ensures { MatchOption result (list_all is_guid_char chars.now ≡ false)
+        (λ guid. (guid.chars ≡ chars.now) × (list_all is_guid_char chars.now ≡ true)) }
+{
+    match Guid::read(chars) {
+        Some(guid) => Some(guid),
+        None => None,
     }
 }
 
@@ -50,7 +77,7 @@ impl Field for Guid {
     #[tactic(auto, unfolding(crate::specs::inner::EntryReaders::guid_at))]
     fn read_from(_: Global, unread: &mut Unread) -> Result<Guid, ReadError> {
         let chars = unread.cut(22)?;
-        match Guid::read(chars) {
+        match guid_of(chars) {
             Some(guid) => Ok(guid),
             None => Err(ReadError::NotSpelled),
         }

@@ -2,7 +2,7 @@
 ghost use Rattle.std.specs.Prelude.{◌≡◌};
 ghost use Rattle.feed_frames.specs.SpelledEntries.{UploadsModel};
 ghost use Rattle.feed_frames.specs.inner.Readers.{Gives, Admits};
-ghost use Rattle.feed_frames.specs.inner.EntryReaders.{named_elements_at, upload_at, remove_at, set_rules_at, bucket_done_at, post_topic_at, put_topic_at, delete_topic_at, post_comment_at, put_comment_at, delete_comment_at, post_view_at, delete_view_at, clash_topic_at, other_kinds, change_at};
+ghost use Rattle.feed_frames.specs.inner.EntryReaders.{MakesUpload, named_elements_at, upload_at, remove_at, set_rules_at, bucket_done_at, post_topic_at, put_topic_at, delete_topic_at, post_comment_at, put_comment_at, delete_comment_at, post_view_at, delete_view_at, clash_topic_at, other_kinds, all_kinds, change_at};
 
 use crate::field::Field;
 use crate::read_error::ReadError;
@@ -27,11 +27,10 @@ fn take_elements(alloc: Global, unread: &mut Unread) -> Result<(Text, Items<Elem
     Ok((name, elements))
 }
 
-// An upload whose elements are a building model.
-fn take_upload(alloc: Global, unread: &mut Unread) -> Result<Change, ReadError>
-    ensures { Admits UploadsModel result unread.new (upload_at unread.old) }
+// The upload of these elements, where they are a building model.
+fn upload_of(alloc: Global, name: Text, elements: Items<Element>) -> Result<Change, ReadError>
+    ensures { MakesUpload name elements result }
 {
-    let (name, elements) = take_elements(alloc, unread)?;
     match Model::checked(alloc, elements.into_vec())? {
         Some(model) => {
             let model = Shared::new(alloc, model)?;
@@ -39,6 +38,14 @@ fn take_upload(alloc: Global, unread: &mut Unread) -> Result<Change, ReadError>
         }
         None => Err(ReadError::NotSpelled),
     }
+}
+
+// An upload whose elements are a building model.
+fn take_upload(alloc: Global, unread: &mut Unread) -> Result<Change, ReadError>
+    ensures { Admits UploadsModel result unread.new (upload_at unread.old) }
+{
+    let parts = take_elements(alloc, unread)?;
+    upload_of(alloc, parts.0, parts.1)
 }
 
 #[tactic(auto, unfolding(crate::specs::inner::EntryReaders::remove_at))]
@@ -210,14 +217,21 @@ fn take_other(kind: u8, alloc: Global, unread: &mut Unread) -> Result<Change, Re
     }
 }
 
-/// Takes a change from the front of the bytes.
-pub(crate) fn take_change(alloc: Global, unread: &mut Unread) -> Result<Change, ReadError>
-    ensures { Admits UploadsModel result unread.new (change_at unread.old) }
+// What stands behind the byte of a kind.
+fn take_behind(kind: u8, alloc: Global, unread: &mut Unread) -> Result<Change, ReadError>
+    ensures { Admits UploadsModel result unread.new (all_kinds kind unread.old) }
 {
-    let kind = unread.byte()?;
     if kind == UPLOAD {
         take_upload(alloc, unread)
     } else {
         take_other(kind, alloc, unread)
     }
+}
+
+/// Takes a change from the front of the bytes.
+pub(crate) fn take_change(alloc: Global, unread: &mut Unread) -> Result<Change, ReadError>
+    ensures { Admits UploadsModel result unread.new (change_at unread.old) }
+{
+    let kind = unread.byte()?;
+    take_behind(kind, alloc, unread)
 }

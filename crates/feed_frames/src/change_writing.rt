@@ -39,7 +39,8 @@ fn put_post_topic(
     weight: u64,
     out: &mut Vec<u8>,
 ) -> Result<(), AllocError>
-    ensures { OnOk result (out.new.items ≡ out.old.items ++ fields_of (Change.PostTopic body.now author.now weight)) }
+    ensures { OnOk result (out.new.items
+        ≡ out.old.items ++ fields_of (Change.PostTopic body.now author.now weight)) }
 {
     body.write_to(out)?;
     author.write_to(out)?;
@@ -53,7 +54,8 @@ fn put_put_topic(
     weight: u64,
     out: &mut Vec<u8>,
 ) -> Result<(), AllocError>
-    ensures { OnOk result (out.new.items ≡ out.old.items ++ fields_of (Change.PutTopic topic body.now author.now weight)) }
+    ensures { OnOk result (out.new.items
+        ≡ out.old.items ++ fields_of (Change.PutTopic topic body.now author.now weight)) }
 {
     topic.write_to(out)?;
     body.write_to(out)?;
@@ -68,7 +70,8 @@ fn put_post_comment(
     weight: u64,
     out: &mut Vec<u8>,
 ) -> Result<(), AllocError>
-    ensures { OnOk result (out.new.items ≡ out.old.items ++ fields_of (Change.PostComment topic body.now author.now weight)) }
+    ensures { OnOk result (out.new.items
+        ≡ out.old.items ++ fields_of (Change.PostComment topic body.now author.now weight)) }
 {
     topic.write_to(out)?;
     body.write_to(out)?;
@@ -84,7 +87,8 @@ fn put_put_comment(
     weight: u64,
     out: &mut Vec<u8>,
 ) -> Result<(), AllocError>
-    ensures { OnOk result (out.new.items ≡ out.old.items ++ fields_of (Change.PutComment topic comment body.now author.now weight)) }
+    ensures { OnOk result (out.new.items
+        ≡ out.old.items ++ fields_of (Change.PutComment topic comment body.now author.now weight)) }
 {
     topic.write_to(out)?;
     comment.write_to(out)?;
@@ -106,7 +110,8 @@ fn put_post_view(
     weight: u64,
     out: &mut Vec<u8>,
 ) -> Result<(), AllocError>
-    ensures { OnOk result (out.new.items ≡ out.old.items ++ fields_of (Change.PostView topic body.now weight)) }
+    ensures { OnOk result (out.new.items
+        ≡ out.old.items ++ fields_of (Change.PostView topic body.now weight)) }
 {
     topic.write_to(out)?;
     body.get().write_to(out)?;
@@ -127,7 +132,8 @@ fn put_clash_topic(
     weight: u64,
     out: &mut Vec<u8>,
 ) -> Result<(), AllocError>
-    ensures { OnOk result (out.new.items ≡ out.old.items ++ fields_of (Change.ClashTopic version place author.now weight)) }
+    ensures { OnOk result (out.new.items
+        ≡ out.old.items ++ fields_of (Change.ClashTopic version place author.now weight)) }
 {
     version.write_to(out)?;
     place.write_to(out)?;

@@ -4,7 +4,7 @@ ghost use Rattle.book_history.specs.declared.changes.Entry.{Entry};
 ghost use Rattle.feed_frames.specs.EntryBytes.{payload};
 ghost use Rattle.feed_frames.specs.SpelledEntries.{UploadsModelOf, IsEntry};
 ghost use Rattle.feed_frames.specs.inner.Readers.{Gives, Admits, Lacks};
-ghost use Rattle.feed_frames.specs.inner.EntryReaders.{head_at, entry_at};
+ghost use Rattle.feed_frames.specs.inner.EntryReaders.{head_at, body_at, entry_at};
 
 use crate::change_reading::take_change;
 use crate::field::Field;
@@ -22,17 +22,24 @@ fn take_head(alloc: Global, unread: &mut Unread) -> Result<(Stamp, u32), ReadErr
     Ok((stamp, project))
 }
 
+// The entry of a head, and of the change that stands behind it.
+fn take_body(alloc: Global, head: (Stamp, u32), unread: &mut Unread) -> Result<Entry, ReadError>
+    ensures { Admits UploadsModelOf result unread.new (body_at head unread.old) }
+{
+    let change = take_change(alloc, unread)?;
+    Ok(Entry {
+        stamp: head.0,
+        project: head.1,
+        change,
+    })
+}
+
 // Takes an entry from the front of the bytes.
 fn take_entry(alloc: Global, unread: &mut Unread) -> Result<Entry, ReadError>
     ensures { Admits UploadsModelOf result unread.new (entry_at unread.old) }
 {
-    let (stamp, project) = take_head(alloc, unread)?;
-    let change = take_change(alloc, unread)?;
-    Ok(Entry {
-        stamp,
-        project,
-        change,
-    })
+    let head = take_head(alloc, unread)?;
+    take_body(alloc, head, unread)
 }
 
 // The entry that the bytes spell, all of them.

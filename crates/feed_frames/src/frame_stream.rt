@@ -27,7 +27,8 @@ impl Model for Frames {
 
     ghost view = { λ f. record { at = f.at; rest = drop f.start f.buf.items } };
 
-    ghost invariant = { λ f. (f.start ≤ length f.buf.items) × (f.at + (length f.buf.items - f.start) < 2 ^ 64) };
+    ghost invariant = { λ f. (f.start ≤ length f.buf.items)
+        × (f.at + (length f.buf.items - f.start) < 2 ^ 64) };
 }
 
 // Drops the bytes before the place, once they are half of the buffer, and answers the place of those behind.

@@ -1,7 +1,8 @@
 -- How the parts of an entry are read.
-use Rattle.std.specs.Prelude.{ℕ, ◌&&◌, Bool, true, List, length, nat_le, nat_lt, Option, Some, None}
+use Rattle.std.specs.Prelude.{◌≡◌, ℕ, ◌&&◌, Bool, true, List, length, nat_le, nat_lt, Option, Some, None, Result, Ok, Err}
 use Rattle.std.specs.List.{list_all}
 use Rattle.bim_model.specs.Guids.{is_guid_char}
+use Rattle.bim_model.specs.Models.{IsModel}
 use Rattle.bim_model.specs.Rules.{is_class_char}
 use Rattle.bim_model.specs.Moments.{last_moment}
 use Rattle.bim_model.specs.declared.limits.TheConstants.{MOST_RULES, MOST_DISTANCE, MOST_CLASS, MOST_LEVEL}
@@ -29,6 +30,8 @@ use Rattle.book_turn.specs.declared.object.Stamp.{Stamp}
 use Rattle.book_history.specs.declared.changes.Change.{Change}
 use Rattle.book_history.specs.declared.changes.Change.TheVariants as change
 use Rattle.book_history.specs.declared.changes.Entry.{Entry}
+use Rattle.feed_frames.specs.declared.read_error.ReadError.{ReadError}
+use Rattle.feed_frames.specs.declared.read_error.ReadError.TheVariants.{NotSpelled, Memory}
 use Rattle.feed_frames.specs.inner.Readers.{Reader, Kinds, nothing_at, cut_at, both_at, made_at, checked_at, kind_at, no_kind, kinds_at}
 use Rattle.feed_frames.specs.inner.FieldReaders.{long_at, short_at, signed_at, text_at, truth_at, optional_at, counted_at}
 
@@ -301,9 +304,13 @@ other_kinds kind bytes =
     (kind_at 11 post_view_at (kind_at 12 delete_view_at (kind_at 13 clash_topic_at no_kind)))))))))))
     kind bytes
 
+-- all changes, by their byte
+abbrev pub all_kinds : Kinds Change
+all_kinds = kind_at 1 upload_at other_kinds
+
 -- a change
 unfoldable pub change_at : Reader Change
-change_at bytes = kinds_at (kind_at 1 upload_at other_kinds) bytes
+change_at bytes = kinds_at all_kinds bytes
 
 -- the call that made an entry
 unfoldable pub stamp_at : Reader Stamp
@@ -316,7 +323,18 @@ stamp_at bytes =
 abbrev pub head_at : Reader (Stamp × ℕ)
 head_at = both_at stamp_at short_at
 
+-- the entry of this head, and of the change that stands behind it
+abbrev pub body_at : (Stamp × ℕ) → Reader Entry
+body_at head bytes =
+    made_at (λ c. record { stamp = head.0; project = head.1; change = c }) change_at bytes
+
 -- an entry
 unfoldable pub entry_at : Reader Entry
 entry_at bytes =
     made_at (λ p. record { stamp = p.0.0; project = p.0.1; change = p.1 }) (both_at head_at change_at) bytes
+
+-- what was made of the parts of an upload is it, where its elements are a model
+abbrev pub MakesUpload : List ℕ → List Element → Result Change ReadError → Type 0
+MakesUpload name elements (Ok c) = (c ≡ change.Upload name elements) × IsModel elements
+MakesUpload name elements (Err Memory) = Unit {0}
+MakesUpload name elements (Err NotSpelled) = IsModel elements → ⊥
