@@ -1,12 +1,13 @@
 -- What is read of a payload is the entry that it spells.
-use Rattle.std.proofs.Common.{◌≡◌, ℕ, List, [], ◌++◌, length, Option, Some, None, refl, sym, ap, subst, ◌∙◌}
+use Rattle.std.proofs.Common.{◌≡◌, ℕ, List, [], ◌++◌, length, Option, Some, None, Result, Ok, Err, refl, sym, ap, subst, ◌∙◌}
 use Rattle.std.proofs.lemmas.List.{append-nil}
 use Rattle.std.proofs.lemmas.Option.{same_Some}
 use Rattle.book_history.specs.declared.changes.Entry.{Entry}
-use Rattle.feed_frames.specs.declared.read_error.ReadError.TheVariants.{NotSpelled}
+use Rattle.feed_frames.specs.declared.read_error.ReadError.{ReadError}
+use Rattle.feed_frames.specs.declared.read_error.ReadError.TheVariants.{NotSpelled, Memory}
 use Rattle.feed_frames.specs.EntryBytes.{payload}
 use Rattle.feed_frames.specs.SpelledEntries.{IsLong, UploadsModelOf, IsEntry}
-use Rattle.feed_frames.specs.inner.Readers.{Refuses}
+use Rattle.feed_frames.specs.inner.Readers.{Refuses, Lacks}
 use Rattle.feed_frames.specs.inner.EntryReaders.{entry_at}
 use Rattle.feed_frames.proofs.Formats.{IsBytes}
 use Rattle.feed_frames.proofs.Changes.{entry_format}
@@ -39,3 +40,8 @@ refused bytes none e good same = none e [] (read_again bytes e good same) good.m
 pub longer : (bytes : List ℕ) (x : Entry) (rest : List ℕ) → entry_at bytes ≡ Some (x, rest) → (rest ≡ [] → ⊥) → (e : Entry) → IsEntry e → payload e ≡ bytes → ⊥
 longer bytes x rest read more e good same =
     more (ap (λ (w : Entry × List ℕ). w.1) (same_Some (x, rest) (e, []) (sym read ∙ read_again bytes e good same)))
+
+-- a call that refused the bytes
+pub lacks_entry : (e : ReadError) (bytes : List ℕ) → Refuses UploadsModelOf e (entry_at bytes) → Lacks {X = Entry} (Err e) ((x : Entry) → IsEntry x → payload x ≡ bytes → ⊥)
+lacks_entry Memory bytes refuses = tt
+lacks_entry NotSpelled bytes refuses = refused bytes refuses

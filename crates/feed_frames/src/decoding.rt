@@ -49,10 +49,12 @@ fn entry_of(alloc: Global, bytes: &[u8]) -> Result<Entry, ReadError>
 {
     let mut unread = Unread::new(bytes);
     let entry = take_entry(alloc, &mut unread)?;
-    if !unread.is_empty() {
-        return Err(ReadError::NotSpelled);
+    let whole = unread.is_empty();
+    if whole {
+        Ok(entry)
+    } else {
+        Err(ReadError::NotSpelled)
     }
-    Ok(entry)
 }
 
 /// The entry that a payload spells, all its bytes, or none where it spells no entry that keeps the rules of
