@@ -108,22 +108,28 @@ body_refused NotSpelled head mid refused =
 pub body_is : (head : Stamp × ℕ) (mid : List ℕ) (c : Change) (rest : List ℕ) → change_at mid ≡ Some (c, rest) → body_at head mid ≡ Some (entry_by head c, rest)
 body_is head mid c rest read = ap (λ o. option_then o (λ y. Some (entry_by head y.0, y.1))) read
 
-twice : (head : Stamp × ℕ) (o : Option (Change × List ℕ)) → option_then (option_then o (λ y. Some ((head, y.0), y.1))) (λ z. Some (entry_by z.0.0 z.0.1, z.1)) ≡ option_then o (λ y. Some (entry_by head y.0, y.1))
+-- a head and a change, and their entry
+abbrev pair_by : (Stamp × ℕ) → (Change × List ℕ) → Option (((Stamp × ℕ) × Change) × List ℕ)
+pair_by head y = Some ((head, y.0), y.1)
+
+abbrev entry_from : (((Stamp × ℕ) × Change) × List ℕ) → Option (Entry × List ℕ)
+entry_from z = Some (entry_by z.0.0 z.0.1, z.1)
+
+-- what is read behind a head
+abbrev behind : Option ((Stamp × ℕ) × List ℕ) → Option (Entry × List ℕ)
+behind o = option_then (option_then o (λ x. option_then (change_at x.1) (λ y. pair_by x.0 y))) entry_from
+
+twice : (head : Stamp × ℕ) (o : Option (Change × List ℕ)) → option_then (option_then o (λ y. pair_by head y)) entry_from ≡ option_then o (λ y. Some (entry_by head y.0, y.1))
 twice head None = refl
 twice head (Some y) = refl
 
 pub entry_fails : (e : ReadError) (old : List ℕ) → Fails e (head_at old) → Refuses UploadsModelOf e (entry_at old)
 unfolding entry_at
 entry_fails Memory old failed = tt
-entry_fails NotSpelled old failed =
-    none_refused UploadsModelOf NotSpelled (entry_at old)
-    (ap (λ o. option_then (option_then o (λ x. option_then (change_at x.1) (λ y. Some ((x.0, y.0), y.1)))) (λ z. Some (entry_by z.0.0 z.0.1, z.1))) failed)
+entry_fails NotSpelled old failed = none_refused UploadsModelOf NotSpelled (entry_at old) (ap behind failed)
 
 pub entry_admitted : (old : List ℕ) (head : Stamp × ℕ) (mid : List ℕ) (r : Result Entry ReadError) (left : List ℕ) → head_at old ≡ Some (head, mid) → Admits UploadsModelOf r left (body_at head mid) → Admits UploadsModelOf r left (entry_at old)
 unfolding entry_at
 entry_admitted old head mid r left read admits =
-    let same : entry_at old ≡ body_at head mid =
-    ap (λ o. option_then (option_then o (λ x. option_then (change_at x.1) (λ y. Some ((x.0, y.0), y.1)))) (λ z. Some (entry_by z.0.0 z.0.1, z.1))) read
-    ∙ twice head (change_at mid)
-    in
+    let same : entry_at old ≡ body_at head mid = ap behind read ∙ twice head (change_at mid) in
     subst (λ (o : Option (Entry × List ℕ)). Admits UploadsModelOf r left o) (sym same) admits
