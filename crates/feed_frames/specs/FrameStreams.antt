@@ -2,6 +2,7 @@
 use Rattle.std.specs.Prelude.{◌≡◌, ◌≢◌, ℕ, ◌+◌, ◌<◌, ◌≤◌, List, ◌++◌, length, take, drop, All, Option, Some, None, Result, Ok, Err}
 use Rattle.std.specs.List.{flat_map}
 use Rattle.std.specs.Int.{w64, from_be_bytes}
+use Rattle.book_history.specs.Weights.{told}
 use Rattle.book_history.specs.declared.changes.Entry.{Entry}
 use Rattle.feed_frames.specs.declared.frame_error.FrameError.{FrameError}
 use Rattle.feed_frames.specs.declared.frame_error.FrameError.TheVariants.{BadFrame, Memory}
@@ -32,7 +33,8 @@ pub record Splits (stream : List ℕ) (entries : List Entry) (rest : List ℕ) :
   pub each : All IsEntry entries
   pub partial : IsPartial rest
 
--- a stream of which some frames were answered: how many bytes these had, and the bytes behind them
+-- a stream of which some frames were answered: how many bytes these had, as far as 64 bits hold it, and the
+-- bytes behind them
 pub record Unanswered : Type 0 where
   pub at : ℕ
   pub rest : List ℕ
@@ -41,7 +43,7 @@ pub record Unanswered : Type 0 where
 -- of a frame that spells none, which stays. A call that met want of memory changes nothing.
 abbrev pub NextFrame : Unanswered → Result (Option Entry) FrameError → Unanswered → Type 0
 NextFrame old (Ok (Some e)) new =
-    IsEntry e × (old.rest ≡ frame e ++ new.rest) × (new.at ≡ old.at + length (frame e))
+    IsEntry e × (old.rest ≡ frame e ++ new.rest) × (new.at ≡ told (old.at + length (frame e)))
 NextFrame old (Ok None) new = IsPartial old.rest × (new ≡ old)
 NextFrame old (Err (BadFrame at)) new = (at ≡ old.at) × IsBadFrame old.rest × (new ≡ old)
 NextFrame old (Err Memory) new = new ≡ old

@@ -7,7 +7,7 @@ use std::alloc::AllocError;
 /// Why a stream gives no further entry.
 #[derive(Clone, Copy, Debug, PartialEq, Eq)]
 pub enum FrameError {
-    /// A whole frame spells no entry. It begins at this byte of the stream, from 0.
+    /// A whole frame spells no entry. It begins at this byte of the stream, from 0, as far as 64 bits hold the place.
     BadFrame { at: u64 },
     Memory,
 }

@@ -20,15 +20,14 @@ pub struct Frames {
 }
 
 impl Model for Frames {
-    ghost use Rattle.std.specs.Prelude.{◌+◌, ◌-◌, ◌<◌, ◌≤◌, ◌^◌, length, drop};
+    ghost use Rattle.std.specs.Prelude.{◌≤◌, length, drop};
     ghost use Rattle.feed_frames.specs.FrameStreams.{Unanswered};
 
     ghost Value = { Unanswered };
 
     ghost view = { λ f. record { at = f.at; rest = drop f.start f.buf.items } };
 
-    ghost invariant = { λ f. (f.start ≤ length f.buf.items)
-        × (f.at + (length f.buf.items - f.start) < 2 ^ 64) };
+    ghost invariant = { λ f. f.start ≤ length f.buf.items };
 }
 
 // Drops the bytes before the place, once they are half of the buffer, and answers the place of those behind.
@@ -66,7 +65,7 @@ fn whole_payload(bytes: &[u8]) -> Option<&[u8]>
 }
 
 impl Frames {
-    ghost use Rattle.std.specs.Prelude.{◌≡◌, ◌+◌, ◌++◌, ◌<◌, ◌^◌, [], length, OnOk, OnErr};
+    ghost use Rattle.std.specs.Prelude.{◌≡◌, ◌++◌, [], OnOk, OnErr};
     ghost use Rattle.feed_frames.specs.FrameStreams.{NextFrame};
 
     /// The stream before its first byte. Takes no memory.
@@ -82,7 +81,6 @@ impl Frames {
 
     /// Takes the next piece of the stream. An `Err` changes nothing.
     pub fn feed(&mut self, piece: &[u8]) -> Result<(), AllocError>
-        requires { self.old.at + length self.old.rest + length piece.now < 2 ^ 64 }
         ensures at { self.new.at ≡ self.old.at }
         ensures ok { OnOk result (self.new.rest ≡ self.old.rest ++ piece.now) }
         ensures err { OnErr result (self.new.rest ≡ self.old.rest) }
@@ -102,7 +100,7 @@ impl Frames {
         match decode(alloc, payload)? {
             Some(entry) => {
                 self.start += size;
-                self.at += size as u64;
+                self.at = self.at.saturating_add(size as u64);
                 Ok(Some(entry))
             }
             None => Err(FrameError::BadFrame { at: self.at }),
