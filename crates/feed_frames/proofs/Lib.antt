@@ -4,6 +4,7 @@ pub mod Fields
 pub mod Parts
 pub mod Changes
 pub mod Apart
+pub mod FrameFronts
 pub mod Payloads
 pub mod Admitted
 pub mod Kept

@@ -1,15 +1,14 @@
 //! A stream of frames, however it is cut into pieces.
-ghost use Rattle.std.specs.Prelude.{◌≡◌, ◌+◌, ◌≤◌, length, take, drop, MatchOption};
-ghost use Rattle.feed_frames.specs.FrameStreams.{count_at, IsPartial};
+ghost use Rattle.std.specs.Prelude.{◌≡◌, ◌≤◌, length, drop, MatchOption};
+ghost use Rattle.feed_frames.specs.FrameStreams.{IsPartial};
+ghost use Rattle.feed_frames.specs.inner.FrameFronts.{IsFrameAt};
 
 use crate::decoding::decode;
+use crate::encoding::COUNT;
 use crate::frame_error::FrameError;
 use book_history::Entry;
 use std::alloc::{AllocError, Global};
 use std::marker::Model;
-
-/// The bytes of a count.
-const COUNT: usize = 8;
 
 /// A stream of frames. Contracts see how many bytes the answered frames had, and the bytes behind them.
 #[derive(Drop)]
@@ -47,9 +46,7 @@ fn compact(buf: &mut Vec<u8>, at: usize) -> usize
 
 // The payload of a frame that stands whole at the front.
 fn whole_payload(bytes: &[u8]) -> Option<&[u8]>
-    ensures { MatchOption result (IsPartial bytes.now) (λ payload.
-        (8 ≤ length bytes.now) × (8 + count_at bytes.now ≤ length bytes.now)
-        × (payload.now ≡ take (count_at bytes.now) (drop 8 bytes.now))) }
+    ensures { MatchOption result (IsPartial bytes.now) (λ payload. IsFrameAt bytes.now payload.now) }
 {
     if bytes.len() < COUNT {
         return None;

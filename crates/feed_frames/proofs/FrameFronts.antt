@@ -1,0 +1,73 @@
+-- The frame at the front of a stream, and the bytes behind it.
+use Rattle.std.proofs.Common.{◌≡◌, ◌≢◌, ℕ, ◌+◌, ◌-◌, ◌<◌, ◌≤◌, List, ◌++◌, length, take, drop, refl, sym, ap, subst, ◌∙◌, append_assoc, arith}
+use Rattle.std.specs.Int.{w64, to_be_bytes, from_be_bytes}
+use Rattle.std.proofs.lemmas.List.{take-append-drop, take_at, drop_at, drop-drop, length-append, length-take, length-drop}
+use Rattle.std.proofs.lemmas.Nat.{be_bytes_8}
+use Rattle.book_history.specs.declared.changes.Entry.{Entry}
+use Rattle.feed_frames.specs.FieldBytes.{long_bytes}
+use Rattle.feed_frames.specs.EntryBytes.{payload, frame}
+use Rattle.feed_frames.specs.SpelledEntries.{IsEntry}
+use Rattle.feed_frames.specs.FrameStreams.{count_at, IsBadFrame}
+use Rattle.feed_frames.specs.inner.FrameFronts.{IsFrameAt}
+use Rattle.feed_frames.proofs.Formats.{IsBytes, IsBytes-front}
+
+-- bytes as they are cut into a count, so many bytes, and the rest
+pub count_spelled : (bytes : List ℕ) → IsBytes bytes → 8 ≤ length bytes → take 8 bytes ≡ long_bytes (count_at bytes)
+unfolding long_bytes
+count_spelled bytes fits long =
+    let whole : bytes ≡ take 8 bytes ++ drop 8 bytes = sym (take-append-drop 8 bytes) in
+    let front : IsBytes (take 8 bytes) = IsBytes-front (take 8 bytes) (drop 8 bytes) (subst (λ (l : List ℕ). IsBytes l) whole fits) in
+    let eight : length (take 8 bytes) ≡ 8 = omega (arith, length-take 8 bytes) in
+    sym (be_bytes_8 (take 8 bytes) (count_at bytes) eight front refl)
+
+-- how many bytes the frame has, and its count says
+inside_length : (bytes inside : List ℕ) → IsFrameAt bytes inside → length inside ≡ count_at bytes
+inside_length bytes inside f =
+    ap length f.is ∙ omega (arith, length-take (count_at bytes) (drop 8 bytes), length-drop 8 bytes, f.whole)
+
+long_length : (n : ℕ) → length (long_bytes n) ≡ 8
+unfolding long_bytes
+long_length n = refl
+
+pub frame_length : (e : Entry) → length (frame e) ≡ 8 + length (payload e)
+unfolding frame
+frame_length e =
+    omega (arith, length-append (long_bytes (length (payload e))) (payload e), long_length (length (payload e)))
+
+-- the frame of the entry that its payload spells, and what stands behind it
+pub stands_before : (bytes inside : List ℕ) (e : Entry) → IsFrameAt bytes inside → payload e ≡ inside → bytes ≡ frame e ++ drop (8 + length inside) bytes
+unfolding frame
+stands_before bytes inside e f same =
+    let n = count_at bytes in
+    let size : length inside ≡ n = inside_length bytes inside f in
+    let rest : List ℕ = drop 8 bytes in
+    let front : take 8 bytes ≡ long_bytes (length (payload e)) = f.count ∙ ap long_bytes (sym size ∙ ap length (sym same)) in
+    let middle : take n rest ≡ payload e = sym (same ∙ f.is) in
+    let behind : drop n rest ≡ drop (8 + length inside) bytes =
+    drop-drop n 8 bytes ∙ ap (λ (k : ℕ). drop (8 + k) bytes) (sym size)
+    in
+    sym (take-append-drop 8 bytes)
+    ∙ ap (λ (l : List ℕ). l ++ rest) front
+    ∙ ap (λ (l : List ℕ). long_bytes (length (payload e)) ++ l) (sym (take-append-drop n rest))
+    ∙ ap (λ (l : List ℕ). long_bytes (length (payload e)) ++ (l ++ drop n rest)) middle
+    ∙ ap (λ (l : List ℕ). long_bytes (length (payload e)) ++ (payload e ++ l)) behind
+    ∙ sym (append_assoc (long_bytes (length (payload e))) (payload e) (drop (8 + length inside) bytes))
+
+-- a frame whose payload spells no entry
+pub is_bad : (bytes inside : List ℕ) → IsFrameAt bytes inside → ((e : Entry) → IsEntry e → payload e ≢ inside) → IsBadFrame bytes
+is_bad bytes inside f none = record {
+  counted = f.counted;
+  whole = f.whole;
+  none = λ e good same. none e good (same ∙ sym f.is);
+}
+
+-- a count written over the first eight bytes, before a payload
+pub framed : (e : Entry) (before : List ℕ) → before ≡ long_bytes 0 ++ payload e → long_bytes (length before - 8) ++ drop 8 before ≡ frame e
+unfolding frame
+framed e before same =
+    let size : length before - 8 ≡ length (payload e) =
+    omega (arith, ap length same, length-append (long_bytes 0) (payload e), long_length 0)
+    in
+    let behind : drop 8 before ≡ payload e = ap (drop 8) same ∙ drop_at (long_bytes 0) (payload e) 8 (long_length 0) in
+    ap (λ (n : ℕ). long_bytes n ++ drop 8 before) size
+    ∙ ap (λ (l : List ℕ). long_bytes (length (payload e)) ++ l) behind
