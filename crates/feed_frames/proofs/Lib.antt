@@ -1,0 +1,10 @@
+pub mod Formats
+pub mod Loops
+pub mod Fields
+pub mod Parts
+pub mod Changes
+pub mod Apart
+pub mod FrameFronts
+pub mod Payloads
+pub mod Admitted
+pub mod Kept

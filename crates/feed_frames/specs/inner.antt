@@ -1,0 +1,4 @@
+pub mod Readers
+pub mod FieldReaders
+pub mod EntryReaders
+pub mod FrameFronts
