@@ -1,5 +1,5 @@
 -- A source that has whole requests to give, where nothing fails.
-use Rattle.std.proofs.Common.{◌≡◌, ◌⊎◌, ◌<◌, ℕ, ◌+◌, Bool, true, false, List, [], ◌∷◌, ◌++◌, length, Option, None, Some, IsTrue, inl, inr, refl, sym, ap, ◌∙◌, subst, add_assoc, append-nil, arith, ⊥}
+use Rattle.std.proofs.Common.{◌≡◌, ◌⊎◌, ◌<◌, ℕ, ◌+◌, Bool, true, false, List, [], ◌∷◌, ◌++◌, length, Option, None, Some, IsTrue, inl, inr, refl, sym, ap, ◌∙◌, subst, add_assoc, append-nil, arith}
 use Rattle.std.specs.Io.KnownBytes.{prepend_known, IsAtEnd}
 use Rattle.bim_io.specs.StreamViews.{Outside}
 use Rattle.http_frame.specs.declared.types.FrameFault.{FrameFault}

@@ -1,5 +1,5 @@
 -- What becomes of a replayed session whose source gives whole requests, where no read and no write fails.
-use Rattle.std.specs.Prelude.{◌≡◌, ◌⊎◌, ◌<◌, ◌++◌, ℕ, List, length, false, true, Option, Some, ⊥}
+use Rattle.std.specs.Prelude.{◌≡◌, ◌⊎◌, ◌<◌, ◌++◌, ℕ, List, length, false, true, Option, Some}
 use Rattle.bim_io.specs.Causes.{Rose}
 use Rattle.bim_io.specs.StreamViews.{Outside}
 use Rattle.http_frame.specs.Events.{Event, Spells}
