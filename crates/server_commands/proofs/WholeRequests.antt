@@ -35,7 +35,7 @@ requests_append (e ∷ es) gs = ap (λ n. counted e + n) (requests_append es gs)
 
 -- what was given is a front of what there was
 given_front : (bytes input : List ℕ) (left : Option (List ℕ)) → Some bytes ≡ prepend_known input left → (more : List ℕ) × (left ≡ Some more) × (bytes ≡ input ++ more)
-given_front bytes input None e = let no : Some bytes ≡ None = e in cc
+given_front bytes input None e = let no : Some bytes ≡ None = e in let bad : ⊥ = cc in absurd bad
 given_front bytes input (Some more) e = let same : Some bytes ≡ Some (input ++ more) = e in (more, refl, cc)
 
 -- all was given where the end was answered
@@ -102,7 +102,7 @@ module _ (bytes : List ℕ) (events : List Event) (settings : Settings) (buckets
       inl (ap status_of x.0, inr (x.1, later bytes r.input more events answered r.session.rest r.session.told front whole r.session.reads))
   ended_well (inr (inr (inl x))) =
       let all : r.input ≡ bytes = all_given bytes r.input more after.source.left left front (r.empty x.3) in
-      let same : frame.within ≡ frame.between = (all_read bytes r.input more events answered r.session.rest r.session.told front whole r.session.reads frame.within all x.4).1 in cc
+      let same : frame.within ≡ frame.between = (all_read bytes r.input more events answered r.session.rest r.session.told front whole r.session.reads frame.within all x.4).1 in let bad : ⊥ = cc in absurd bad
   ended_well (inr (inr (inr (inl x)))) = absurd (good.0 (r.read_fault.only (stop.standing.served, x.0)))
   ended_well (inr (inr (inr (inr (inl x))))) = absurd (good.1 (r.write_fault.only (stop.standing.served, x.0)))
   ended_well (inr (inr (inr (inr (inr (inl x)))))) =
