@@ -1,1 +1,3 @@
+mod CommitLemmas
+mod OpeningLemmas
 mod RowLemmas

@@ -1,5 +1,5 @@
 -- Rows of changes, of which the last has the greatest turn.
-use Rattle.std.proofs.Common.{◌≡◌, ◌<◌, ℕ, pos, List, [], ◌∷◌, ◌++◌, map, refl, sym, ap, ◌∙◌, arith, Less}
+use Rattle.std.proofs.Common.{◌≡◌, ◌<◌, ◌≤◌, ℕ, pos, List, [], ◌∷◌, ◌++◌, Option, Some, None, append_assoc, append-nil, refl, ap, ◌∙◌, arith, Less}
 use Rattle.std.proofs.lemmas.Int.{ints}
 use Rattle.std.proofs.lemmas.Bool.Decides.{nat_tests}
 use Rattle.sqlite_value.specs.declared.value.Value.{Value}
@@ -7,7 +7,7 @@ use Rattle.sqlite_value.specs.declared.value.Value.TheVariants.{Int}
 use Rattle.sqlite_value.specs.Order.{Row, value_cmp}
 use Rattle.sqlite_value.proofs.OrderLemmas.{value_cmp-Int}
 use Rattle.sqlite_trees.specs.Tree.{rowid, put_row}
-use Rattle.change_store.specs.ChangeRows.{StoredChange, row_of, told_by, changes_in, IsChangeAfter, AreChangesAfter, last_after}
+use Rattle.change_store.specs.ChangeRows.{StoredChange, row_of, told_by, changes_in, taken_after, IsChangeAfter, AreChangesAfter, last_after}
 
 -- a lower turn is a lower key
 lower_key : (m n : ℕ) → m < n → value_cmp (Int (pos m)) (Int (pos n)) ≡ Less
@@ -46,3 +46,12 @@ changes_of_more (first ∷ rows) row = ap (λ (x : List StoredChange). told_by f
 pub in_the_middle : (n : ℕ) (done : List Row) (row : Row) (left : List Row) → AreChangesAfter n (done ++ row ∷ left) → IsChangeAfter (last_after n done) row
 in_the_middle n [] row left all = all.0
 in_the_middle n (first ∷ done) row left all = in_the_middle (told_by first).turn done row left all.1
+
+-- a reader that took some changes and then others took both
+pub taken_twice : (taken : Option (List StoredChange)) (some more : List StoredChange) → taken_after (taken_after taken some) more ≡ taken_after taken (some ++ more)
+taken_twice None some more = refl
+taken_twice (Some done) some more = ap Some (append_assoc done some more)
+
+pub taken_none : (taken : Option (List StoredChange)) → taken_after taken [] ≡ taken
+taken_none None = refl
+taken_none (Some done) = ap Some (append-nil done)

@@ -1,5 +1,5 @@
 -- Changes as rows of a table.
-use Rattle.std.specs.Prelude.{◌≡◌, ◌<◌, ◌^◌, ℕ, pos, List, [], ◌∷◌, map, take, codes, ⊤}
+use Rattle.std.specs.Prelude.{◌≡◌, ◌<◌, ◌^◌, ℕ, pos, List, [], ◌∷◌, ◌++◌, map, take, codes, Option, option_map, ⊤}
 use Rattle.sqlite_value.specs.declared.value.Value.TheVariants.{Null, Int, Text, Blob}
 use Rattle.sqlite_value.specs.Order.{Row, column, bytes}
 use Rattle.sqlite_trees.specs.Tree.{Trees, IsAscending}
@@ -34,6 +34,10 @@ table_text =
 -- the table's line in SQLite's list of tables: its number, type, name, table and text
 abbrev pub table_line : Row
 table_line = Int (pos 1) ∷ Text (codes "table") ∷ Text (codes "change") ∷ Text (codes "change") ∷ Text table_text ∷ []
+
+-- what a reader has taken after these too, if it tells what it took
+abbrev pub taken_after : Option (List StoredChange) → List StoredChange → Option (List StoredChange)
+taken_after taken changes = option_map (λ done. done ++ changes) taken
 
 -- a row of a change after that turn
 pub record IsChangeAfter (last : ℕ) (row : Row) : Type 0 where

@@ -6,13 +6,13 @@ pub struct NotTaken;
 
 /// Takes the changes of a store one by one, as it is opened.
 pub trait ChangeReader {
-    ghost use Rattle.std.specs.Prelude.{◌≡◌, ◌∷◌, ◌++◌, [], List, OnOk};
-    ghost use Rattle.change_store.specs.ChangeRows.{StoredChange, change_of};
+    ghost use Rattle.std.specs.Prelude.{◌≡◌, ◌∷◌, [], List, Option, OnOk};
+    ghost use Rattle.change_store.specs.ChangeRows.{StoredChange, change_of, taken_after};
 
-    // The changes that it took.
-    ghost taken: { Self → List StoredChange };
+    // The changes that it took, if it tells them.
+    ghost taken: { Self → Option (List StoredChange) };
 
     /// Takes the next change, or refuses it.
     fn take(&mut self, turn: u64, project: u32, bytes: &[u8]) -> Result<(), NotTaken>
-        ensures { OnOk result (taken self.new ≡ taken self.old ++ change_of turn project bytes.now ∷ []) };
+        ensures { OnOk result (taken self.new ≡ taken_after (taken self.old) (change_of turn project bytes.now ∷ [])) };
 }

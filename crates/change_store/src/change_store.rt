@@ -52,8 +52,7 @@ impl<S: Store> ChangeStore<S> {
 
     /// A store over a database that is ready.
     pub(crate) fn new(alloc: Global, store: S, last: u64) -> ChangeStore<S>
-        requires ready { IsClean (S.Store.view store) → IsReady (S.Store.view store) last }
-        requires found { IsClean (S.Store.view store) → (db : Trees) → S.Store.recovers store db → IsOfChanges db }
+        requires { IsClean (S.Store.view store) → IsReady (S.Store.view store) last }
         ensures { result ≡ record { store = store; last = last; sealed = false } }
     {
         ChangeStore {

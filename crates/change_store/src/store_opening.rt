@@ -1,10 +1,10 @@
 //! A database is opened as a store of changes.
-ghost use Rattle.std.specs.Prelude.{◌≡◌, ◌≢◌, ◌⊎◌, ◌≤◌, ◌∷◌, ◌++◌, [], false, Err, Some, IfOk, IfErr, OnOk, MatchBool, MatchOption, IsTrue};
+ghost use Rattle.std.specs.Prelude.{◌≡◌, ◌≢◌, ◌⊎◌, ◌≤◌, ◌∷◌, [], false, Err, Some, IfOk, IfErr, OnOk, MatchBool, MatchOption, IsTrue};
 ghost use Rattle.sqlite_value.specs.declared.value.Value.TheVariants.{Null, Int, Blob};
 ghost use Rattle.sqlite_exec.specs.Calls.{OnlyReads};
 ghost use Rattle.sqlite_trees.specs.Tree.{Trees};
 ghost use Rattle.sqlite_trees.specs.View.{IsClean, doubt, IsQuiet};
-ghost use Rattle.change_store.specs.ChangeRows.{changes_in, told_by, table_line, IsChangeAfter, AreChangesAfter, last_after, IsOfChanges};
+ghost use Rattle.change_store.specs.ChangeRows.{changes_in, told_by, taken_after, table_line, IsChangeAfter, AreChangesAfter, last_after, IsOfChanges};
 ghost use Rattle.change_store.specs.StoreReads.{IsSettled, HasTable, LacksTable, IsReady, Begins};
 ghost use Rattle.change_store.specs.StoreStates.{IsHonest, held};
 
@@ -103,7 +103,7 @@ fn tell_row<R: ChangeReader>(row: &Row, last: u64, reader: &mut R) -> Result<u64
     ensures turn { IfOk result (λ turn. turn ≡ (told_by row.now).turn) }
     ensures row { OnOk result (IsChangeAfter last row.now) }
     ensures taken { OnOk result (R.ChangeReader.taken reader.new
-        ≡ R.ChangeReader.taken reader.old ++ told_by row.now ∷ []) }
+        ≡ taken_after (R.ChangeReader.taken reader.old) (told_by row.now ∷ [])) }
     ensures bad { result ≡ Err OpenFault.BadRow → ¬ IsChangeAfter last row.now }
     ensures kind { IfErr result (λ e. (e ≡ OpenFault.BadRow) ⊎ (e ≡ OpenFault.Refused)) }
 {
@@ -131,7 +131,7 @@ fn tell_rows<S: Store, R: ChangeReader>(
     ensures last { IfOk result (λ last. IsClean (S.Store.view store.new)
         → last ≡ last_after 0 ((S.Store.view store.old).trees 0)) }
     ensures taken { OnOk result (IsClean (S.Store.view store.new) → R.ChangeReader.taken reader.new
-        ≡ R.ChangeReader.taken reader.old ++ changes_in ((S.Store.view store.old).trees 0)) }
+        ≡ taken_after (R.ChangeReader.taken reader.old) (changes_in ((S.Store.view store.old).trees 0))) }
     ensures same { OnOk result (IsClean (S.Store.view store.new)
         → OnlyReads (S.Store.view store.old) (S.Store.view store.new)) }
     ensures bad { result ≡ Err OpenFault.BadRow → IsClean (S.Store.view store.new)
@@ -167,7 +167,7 @@ fn begin<S: Alter, R: ChangeReader>(
     ensures found { OnOk result (IsClean (S.Store.view store.new)
         → Begins (S.Store.view store.old).trees (changes_in ((S.Store.view store.new).committed 0))) }
     ensures read { OnOk result (IsClean (S.Store.view store.new) → R.ChangeReader.taken reader.new
-        ≡ R.ChangeReader.taken reader.old ++ changes_in ((S.Store.view store.new).committed 0)) }
+        ≡ taken_after (R.ChangeReader.taken reader.old) (changes_in ((S.Store.view store.new).committed 0))) }
     ensures bad { result ≡ Err OpenFault.BadRow → IsClean (S.Store.view store.new)
         → ¬ AreChangesAfter 0 ((S.Store.view store.old).trees 0) }
     ensures other { result ≡ Err OpenFault.OtherTables → IsClean (S.Store.view store.new)
@@ -197,9 +197,10 @@ pub fn open_changes<S: Alter, R: ChangeReader>(
     requires settled { IsClean (S.Store.view store) → (S.Store.view store).is_broken ≡ false
         → (S.Store.view store).trees ≡ (S.Store.view store).committed }
     ensures open { IfOk result (λ s. s.sealed ≡ false) }
+    ensures sound { IfOk result (λ s. IsHonest S.Store s → (S.Store.view store).is_broken ≡ false) }
     ensures found { IfOk result (λ s. IsHonest S.Store s → Begins (S.Store.view store).trees (held S.Store s)) }
     ensures read { IfOk result (λ s. IsHonest S.Store s
-        → R.ChangeReader.taken reader.new ≡ R.ChangeReader.taken reader.old ++ held S.Store s) }
+        → R.ChangeReader.taken reader.new ≡ taken_after (R.ChangeReader.taken reader.old) (held S.Store s)) }
     ensures bad { IfErr result (λ e. e.0 ≡ OpenFault.BadRow → IsClean (S.Store.view e.1)
         → ¬ AreChangesAfter 0 ((S.Store.view store).trees 0)) }
     ensures other { IfErr result (λ e. e.0 ≡ OpenFault.OtherTables → IsClean (S.Store.view e.1)

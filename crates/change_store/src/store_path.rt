@@ -1,8 +1,9 @@
 //! The store of a file, by its path.
-ghost use Rattle.std.specs.Prelude.{◌≡◌, ◌++◌, false, IfOk};
+ghost use Rattle.std.specs.Prelude.{◌≡◌, false, IfOk};
 ghost use Rattle.sqlite_trees.specs.Tree.{Trees};
 ghost use Rattle.sqlite_wal.specs.Files.{image_at};
 ghost use Rattle.sqlite.specs.Files.{over_files, AreFoundIn};
+ghost use Rattle.change_store.specs.ChangeRows.{taken_after};
 ghost use Rattle.change_store.specs.StoreReads.{Begins};
 ghost use Rattle.change_store.specs.StoreStates.{IsHonest, held};
 
@@ -41,7 +42,7 @@ pub fn open_store<S: Start, R: ChangeReader>(
     ensures found { IfOk result (λ s. IsHonest over_files s
         → (db : Trees) × AreFoundIn (image_at S.Start) db × Begins db (held over_files s)) }
     ensures read { IfOk result (λ s. IsHonest over_files s
-        → R.ChangeReader.taken reader.new ≡ R.ChangeReader.taken reader.old ++ held over_files s) }
+        → R.ChangeReader.taken reader.new ≡ taken_after (R.ChangeReader.taken reader.old) (held over_files s)) }
 {
     let connection = match Connection::open_from(rt, path, false, start) {
         Ok(connection) => connection,

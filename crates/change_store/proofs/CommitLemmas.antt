@@ -1,0 +1,65 @@
+-- What a commit of one more row leaves.
+use Rattle.std.proofs.Common.{◌≡◌, ◌<◌, ◌^◌, ◌⊎◌, ℕ, pos, false, Result, Ok, Err, OnOk, List, [], ◌∷◌, ◌++◌, map, take, refl, sym, ap, subst, ◌∙◌, arith, IsTrue}
+use Rattle.sqlite_value.specs.Order.{Row}
+use Rattle.sqlite_trees.specs.Tree.{Trees, put_row, with_tree}
+use Rattle.sqlite_trees.specs.Objects.{catalog_tree}
+use Rattle.sqlite_trees.specs.View.{View, SetsTree, Commits}
+use Rattle.change_store.specs.ChangeRows.{StoredChange, row_of, told_by, IsChangeAfter, AreChangesAfter, last_after, IsOfChanges}
+use Rattle.change_store.specs.StoreReads.{IsReady}
+use Rattle.change_store.proofs.RowLemmas.{put_last, one_more, last_of_more}
+
+-- the row of a later change is one after the last
+is_after : (last : ℕ) (c : StoredChange) → last < c.turn → c.project < 2 ^ 32 → IsChangeAfter last (row_of c)
+is_after last c later small = record { row = refl; turn = later; project = small }
+
+-- behind a put the table has one row more
+pub rows_put : (v0 v1 : View) (last : ℕ) (c : StoredChange) (row : Row) → row ≡ row_of c → last < c.turn → IsReady v0 last → SetsTree v0 v1 0 (put_row row)
+    → v1.trees 0 ≡ v0.committed 0 ++ row_of c ∷ []
+rows_put v0 v1 last c row filled later ready sets =
+    ap (λ (v : View). v.trees 0) sets.is ∙ ap (λ (r : Row). put_row r (v0.trees 0)) filled
+    ∙ ap (λ (rows : List Row). put_row (row_of c) rows) (ap (λ (t : Trees). t 0) ready.settled.settled)
+    ∙ put_last 0 c (v0.committed 0) ready.rows (subst (λ (n : ℕ). n < c.turn) ready.last later)
+
+-- and is one of changes
+pub trees_put : (v0 v1 : View) (last : ℕ) (c : StoredChange) (row : Row) → row ≡ row_of c → last < c.turn → c.project < 2 ^ 32 → IsReady v0 last → SetsTree v0 v1 0 (put_row row)
+    → IsOfChanges v1.trees
+trees_put v0 v1 last c row filled later small ready sets = record {
+  listed = ap (λ (v : View). map (take 5) (v.trees catalog_tree)) sets.is ∙ ready.table.listed;
+  rows = subst (λ (rows : List Row). AreChangesAfter 0 rows) (sym (rows_put v0 v1 last c row filled later ready sets))
+      (one_more 0 (v0.committed 0) (row_of c) ready.rows (is_after _ c (subst (λ (n : ℕ). n < c.turn) ready.last later) small));
+}
+
+-- behind the commit it is ready again
+pub ready_again : (v0 v1 n : View) (last : ℕ) (c : StoredChange) (row : Row) → row ≡ row_of c → last < c.turn → c.project < 2 ^ 32 → IsReady v0 last → SetsTree v0 v1 0 (put_row row)
+    → Commits v1 n → IsReady n c.turn
+ready_again v0 v1 n last c row filled later small ready sets committed_by =
+    let trees = trees_put v0 v1 last c row filled later small ready sets in
+    let same : n.committed ≡ v1.trees = ap (λ (v : View). v.committed) committed_by.is in record {
+      settled = record {
+        is_open = subst IsTrue (sym (ap (λ (v : View). v.is_open) committed_by.is ∙ ap (λ (v : View). v.is_open) sets.is)) ready.settled.is_open;
+        sound = ap (λ (v : View). v.is_broken) committed_by.is ∙ committed_by.sound;
+        settled = ap (λ (v : View). v.trees) committed_by.is ∙ sym same;
+      };
+      table = record {
+        listed = ap (λ (v : View). map (take 5) (v.trees catalog_tree)) committed_by.is ∙ trees.listed;
+        shape = ap (λ (v : View). v.shape 0) committed_by.is ∙ ap (λ (v : View). v.shape 0) sets.is ∙ ready.table.shape;
+        plain = ap (λ (v : View). v.reals 0) committed_by.is ∙ ap (λ (v : View). v.reals 0) sets.is ∙ ready.table.plain;
+      };
+      rows = subst (λ (db : Trees). AreChangesAfter 0 (db 0)) (sym same) trees.rows;
+      last = sym (ap (λ (db : Trees). last_after 0 (db 0)) same ∙ ap (last_after 0) (rows_put v0 v1 last c row filled later ready sets) ∙ last_of_more 0 (v0.committed 0) (row_of c));
+    }
+
+pub rows_committed : (v0 v1 n : View) (last : ℕ) (c : StoredChange) (row : Row) → row ≡ row_of c → last < c.turn → IsReady v0 last → SetsTree v0 v1 0 (put_row row) → Commits v1 n
+    → n.committed 0 ≡ v0.committed 0 ++ row_of c ∷ []
+rows_committed v0 v1 n last c row filled later ready sets committed_by = ap (λ (v : View). v.committed 0) committed_by.is ∙ rows_put v0 v1 last c row filled later ready sets
+
+pub on_ok : {A E P Q : Type 0} (r : Result A E) → (P → Q) → OnOk r P → OnOk r Q
+on_ok (Ok x) f p = f p
+on_ok (Err e) f p = tt
+
+-- what is committed in a store that is ready is a database of changes
+pub ready_changes : (v : View) (last : ℕ) → IsReady v last → IsOfChanges v.committed
+ready_changes v last ready = record {
+  listed = ap (λ (db : Trees). map (take 5) (db catalog_tree)) (sym ready.settled.settled) ∙ ready.table.listed;
+  rows = ready.rows;
+}

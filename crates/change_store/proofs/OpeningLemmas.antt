@@ -1,0 +1,62 @@
+-- What an open makes and finds.
+use Rattle.std.proofs.Common.{◌≡◌, ◌≢◌, ◌<◌, ◌^◌, ℕ, ℤ, pos, false, true, List, [], ◌∷◌, ◌++◌, map, take, length, refl, sym, ap, subst, ◌∙◌, arith, IsTrue}
+use Rattle.sqlite_value.specs.declared.value.Value.{Value}
+use Rattle.sqlite_value.specs.declared.value.Value.TheVariants.{Null, Int, Text, Blob}
+use Rattle.sqlite_value.specs.Order.{Row, column}
+use Rattle.sqlite_trees.specs.Tree.{Trees}
+use Rattle.sqlite_trees.specs.Objects.{catalog_tree, Creates, object_row}
+use Rattle.sqlite_trees.specs.View.{View, Commits}
+use Rattle.sqlite_trees.specs.declared.schema.Object.{Object}
+use Rattle.sqlite_trees.specs.declared.store.Shape.TheVariants.{Table}
+use Rattle.change_store.specs.ChangeRows.{row_of, told_by, table_line, IsChangeAfter, AreChangesAfter, last_after, IsOfChanges}
+use Rattle.change_store.specs.StoreReads.{IsSettled, HasTable, LacksTable, IsReady, Begins}
+
+-- a list of no lines
+pub none_listed : (rows : List Row) → map (take 5) rows ≡ [] → rows ≡ []
+none_listed [] h = refl
+none_listed (row ∷ rows) h = absurd (cc)
+
+-- a row of four columns
+pub four : (row : Row) → length row ≡ 4 → row ≡ column row 0 ∷ column row 1 ∷ column row 2 ∷ column row 3 ∷ []
+four [] h = absurd (omega arith)
+four (a ∷ []) h = absurd (omega arith)
+four (a ∷ b ∷ []) h = absurd (omega arith)
+four (a ∷ b ∷ c ∷ []) h = absurd (omega arith)
+four (a ∷ b ∷ c ∷ d ∷ []) h = refl
+four (a ∷ b ∷ c ∷ d ∷ e ∷ rest) h = absurd (omega arith)
+
+-- the trees with the new table, which has no row
+pub table_made : (v0 v1 : View) (o : Object) → LacksTable v0 → o.shape ≡ Table → map (take 5) (object_row 0 o ∷ []) ≡ table_line ∷ [] → Creates v0 v1 0 o
+    → IsOfChanges v1.trees × (v1.trees 0 ≡ [])
+table_made v0 v1 o lacks shape line made =
+    let none : v1.trees 0 ≡ [] = ap (λ (v : View). v.trees 0) made.is in (
+      record {
+        listed = ap (λ (v : View). map (take 5) (v.trees catalog_tree)) made.is ∙ ap (λ (rows : List Row). map (take 5) (Rattle.sqlite_trees.specs.Tree.put_row (object_row 0 o) rows)) lacks.unlisted ∙ line;
+        rows = subst (λ (rows : List Row). AreChangesAfter 0 rows) (sym none) tt;
+      },
+      none,
+    )
+
+-- and once they are committed, it is ready
+pub table_ready : (v0 v1 n : View) (o : Object) → LacksTable v0 → IsSettled v0 → o.shape ≡ Table → o.reals ≡ 0 → map (take 5) (object_row 0 o ∷ []) ≡ table_line ∷ [] → Creates v0 v1 0 o → Commits v1 n
+    → IsReady n 0 × (n.committed 0 ≡ [])
+table_ready v0 v1 n o lacks settled shape reals line made kept =
+    let made_so = table_made v0 v1 o lacks shape line made in
+    let same : n.committed ≡ v1.trees = ap (λ (v : View). v.committed) kept.is in
+    let none : n.committed 0 ≡ [] = ap (λ (db : Trees). db 0) same ∙ made_so.1 in (
+      record {
+        settled = record {
+          is_open = subst IsTrue (sym (ap (λ (v : View). v.is_open) kept.is ∙ ap (λ (v : View). v.is_open) made.is)) settled.is_open;
+          sound = ap (λ (v : View). v.is_broken) kept.is ∙ kept.sound;
+          settled = ap (λ (v : View). v.trees) kept.is ∙ sym same;
+        };
+        table = record {
+          listed = ap (λ (v : View). map (take 5) (v.trees catalog_tree)) kept.is ∙ made_so.0.listed;
+          shape = ap (λ (v : View). v.shape 0) kept.is ∙ ap (λ (v : View). v.shape 0) made.is ∙ shape;
+          plain = ap (λ (v : View). v.reals 0) kept.is ∙ ap (λ (v : View). v.reals 0) made.is ∙ reals;
+        };
+        rows = subst (λ (rows : List Row). AreChangesAfter 0 rows) (sym none) tt;
+        last = sym (ap (last_after 0) none);
+      },
+      none,
+    )
