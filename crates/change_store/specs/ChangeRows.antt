@@ -23,17 +23,19 @@ row_of c = Int (pos c.turn) ∷ Null ∷ Int (pos c.project) ∷ Blob c.bytes �
 abbrev pub told_by : Row → StoredChange
 told_by row = change_of (number_in (column row 0)) (number_in (column row 2)) (bytes (column row 3))
 
+-- the changes of these rows
 abbrev pub changes_in : List Row → List StoredChange
 changes_in rows = map told_by rows
 
 -- the text by which SQLite makes the table
 abbrev pub table_text : List ℕ
 table_text =
-    codes "CREATE TABLE change (turn INTEGER PRIMARY KEY, project INTEGER NOT NULL, entry BLOB NOT NULL) STRICT"
+    codes "CREATE TABLE change (turn INTEGER PRIMARY KEY, project INTEGER NOT NULL, entry BLOB NOT NULL)"
 
 -- the table's line in SQLite's list of tables: its number, type, name, table and text
 abbrev pub table_line : Row
-table_line = Int (pos 1) ∷ Text (codes "table") ∷ Text (codes "change") ∷ Text (codes "change") ∷ Text table_text ∷ []
+table_line =
+    Int (pos 1) ∷ Text (codes "table") ∷ Text (codes "change") ∷ Text (codes "change") ∷ Text table_text ∷ []
 
 -- what a reader has taken after these too, if it tells what it took
 abbrev pub taken_after : Option (List StoredChange) → List StoredChange → Option (List StoredChange)

@@ -13,6 +13,7 @@ pub record StoreState (S : Type 0) : Type 0 where
   pub last : ℕ
   pub sealed : Bool
 
+-- how such a state is written as others
 abbrev pub state_code : {S : Type 0} → Coded S → Coded (StoreState S)
 state_code {S} store =
     code_by (S × (ℕ × Bool)) (coded× store (coded× coded_ℕ coded_bool)) (λ s. (s.store, (s.last, s.sealed)))

@@ -14,5 +14,6 @@ pub trait ChangeReader {
 
     /// Takes the next change, or refuses it.
     fn take(&mut self, turn: u64, project: u32, bytes: &[u8]) -> Result<(), NotTaken>
-        ensures { OnOk result (taken self.new ≡ taken_after (taken self.old) (change_of turn project bytes.now ∷ [])) };
+        ensures { OnOk result (taken self.new
+            ≡ taken_after (taken self.old) (change_of turn project bytes.now ∷ [])) };
 }

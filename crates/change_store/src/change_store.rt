@@ -126,7 +126,8 @@ impl<S: Store> ChangeStore<S> {
     /// What a crash between two calls leaves: there is such an outcome, and each is a database of changes by rising turn.
     /// It does nothing.
     pub fn outcomes(&self)
-        ensures some { IsHonest S.Store self.now → ∥ ((found : List StoredChange) × MayFind S.Store self.now found) ∥₁ }
+        ensures some { IsHonest S.Store self.now
+            → ∥ ((found : List StoredChange) × MayFind S.Store self.now found) ∥₁ }
         ensures settled { IsHonest S.Store self.now → self.now.sealed ≡ false
             → (found : List StoredChange) → MayFind S.Store self.now found → found ≡ held S.Store self.now }
         ensures rising { IsHonest S.Store self.now

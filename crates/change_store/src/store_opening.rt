@@ -21,7 +21,7 @@ use std::alloc::{AllocError, Global};
 
 /// The text by which SQLite makes the table.
 pub const TABLE: &str =
-    "CREATE TABLE change (turn INTEGER PRIMARY KEY, project INTEGER NOT NULL, entry BLOB NOT NULL) STRICT";
+    "CREATE TABLE change (turn INTEGER PRIMARY KEY, project INTEGER NOT NULL, entry BLOB NOT NULL)";
 
 // The table's line in the list of tables.
 fn table_line(alloc: Global) -> Result<Row, AllocError>
@@ -60,11 +60,13 @@ fn finds_table<S: Alter>(alloc: Global, store: &S) -> Result<bool, OpenFault>
 
 // Makes the table in a database that has none.
 fn make_table<S: Alter>(store: &mut S) -> Result<(), StoreError>
-    requires numbered { IsClean (S.Store.view store.old) → IsTrue (S.Store.view store.old).is_numbered }
+    requires numbered { IsClean (S.Store.view store.old)
+        → IsTrue (S.Store.view store.old).is_numbered }
     requires settled { IsClean (S.Store.view store.old) → IsSettled (S.Store.view store.old) }
     requires lacks { IsClean (S.Store.view store.old) → LacksTable (S.Store.view store.old) }
     ensures ready { OnOk result (IsClean (S.Store.view store.new) → IsReady (S.Store.view store.new) 0) }
-    ensures empty { OnOk result (IsClean (S.Store.view store.new) → (S.Store.view store.new).committed 0 ≡ []) }
+    ensures empty { OnOk result (IsClean (S.Store.view store.new)
+        → (S.Store.view store.new).committed 0 ≡ []) }
     ensures crash { IsClean (S.Store.view store.new) → (db : Trees) → S.Store.recovers store.new db
         → S.Store.recovers store.old db ⊎ (IsOfChanges db × (db 0 ≡ [])) }
     ensures clean { doubt (S.Store.view store.old).is_clean ≤ doubt (S.Store.view store.new).is_clean }
@@ -84,7 +86,8 @@ fn make_table<S: Alter>(store: &mut S) -> Result<(), StoreError>
 // The turn, the project and the bytes of a row that has the columns of a change.
 fn columns_of(row: &Row) -> Option<(i64, i64, &[u8])>
     ensures { MatchOption result
-        ((turn : _) (project : _) (bytes : _) → row.now ≢ Int turn ∷ Null ∷ Int project ∷ Blob bytes ∷ [])
+        ((turn : _) (project : _) (bytes : _)
+        → row.now ≢ Int turn ∷ Null ∷ Int project ∷ Blob bytes ∷ [])
         (λ c. row.now ≡ Int c.0 ∷ Null ∷ Int c.1 ∷ Blob c.2.now ∷ []) }
 {
     if row.len() != 4 {
@@ -137,7 +140,8 @@ fn tell_rows<S: Store, R: ChangeReader>(
     ensures bad { result ≡ Err OpenFault.BadRow → IsClean (S.Store.view store.new)
         → ¬ AreChangesAfter 0 ((S.Store.view store.old).trees 0) }
     ensures kind { IfErr result (λ e. e ≢ OpenFault.OtherTables) }
-    ensures quiet { IsQuiet S.Store.view S.Store.faults S.Store.recovers S.Store.is_shielded store.old store.new }
+    ensures quiet { IsQuiet S.Store.view S.Store.faults S.Store.recovers S.Store.is_shielded
+        store.old store.new }
 {
     let mut row = Row::new(alloc);
     if let Err(error) = store.seek(0, CHANGES, &row, Direction::Forward) {
@@ -161,9 +165,11 @@ fn begin<S: Alter, R: ChangeReader>(
     store: &mut S,
     reader: &mut R,
 ) -> Result<u64, OpenFault>
-    requires numbered { IsClean (S.Store.view store.old) → IsTrue (S.Store.view store.old).is_numbered }
+    requires numbered { IsClean (S.Store.view store.old)
+        → IsTrue (S.Store.view store.old).is_numbered }
     requires settled { IsClean (S.Store.view store.old) → IsSettled (S.Store.view store.old) }
-    ensures ready { IfOk result (λ last. IsClean (S.Store.view store.new) → IsReady (S.Store.view store.new) last) }
+    ensures ready { IfOk result (λ last. IsClean (S.Store.view store.new)
+        → IsReady (S.Store.view store.new) last) }
     ensures found { OnOk result (IsClean (S.Store.view store.new)
         → Begins (S.Store.view store.old).trees (changes_in ((S.Store.view store.new).committed 0))) }
     ensures read { OnOk result (IsClean (S.Store.view store.new) → R.ChangeReader.taken reader.new
@@ -198,9 +204,10 @@ pub fn open_changes<S: Alter, R: ChangeReader>(
         → (S.Store.view store).trees ≡ (S.Store.view store).committed }
     ensures open { IfOk result (λ s. s.sealed ≡ false) }
     ensures sound { IfOk result (λ s. IsHonest S.Store s → (S.Store.view store).is_broken ≡ false) }
-    ensures found { IfOk result (λ s. IsHonest S.Store s → Begins (S.Store.view store).trees (held S.Store s)) }
-    ensures read { IfOk result (λ s. IsHonest S.Store s
-        → R.ChangeReader.taken reader.new ≡ taken_after (R.ChangeReader.taken reader.old) (held S.Store s)) }
+    ensures found { IfOk result (λ s. IsHonest S.Store s
+        → Begins (S.Store.view store).trees (held S.Store s)) }
+    ensures read { IfOk result (λ s. IsHonest S.Store s → R.ChangeReader.taken reader.new
+        ≡ taken_after (R.ChangeReader.taken reader.old) (held S.Store s)) }
     ensures bad { IfErr result (λ e. e.0 ≡ OpenFault.BadRow → IsClean (S.Store.view e.1)
         → ¬ AreChangesAfter 0 ((S.Store.view store).trees 0)) }
     ensures other { IfErr result (λ e. e.0 ≡ OpenFault.OtherTables → IsClean (S.Store.view e.1)
@@ -208,7 +215,8 @@ pub fn open_changes<S: Alter, R: ChangeReader>(
     // A crash leaves what it could leave before, or the table with no row.
     ensures unharmed { IfErr result (λ e. IsClean (S.Store.view e.1) → (db : Trees) → S.Store.recovers e.1 db
         → S.Store.recovers store db ⊎ (IsOfChanges db × (db 0 ≡ []))) }
-    ensures clean { IfOk result (λ s. doubt (S.Store.view store).is_clean ≤ doubt (S.Store.view s.store).is_clean) }
+    ensures clean { IfOk result (λ s.
+        doubt (S.Store.view store).is_clean ≤ doubt (S.Store.view s.store).is_clean) }
 {
     if store.is_broken() {
         return Err((OpenFault::Failed, store));

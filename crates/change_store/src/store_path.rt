@@ -41,8 +41,8 @@ pub fn open_store<S: Start, R: ChangeReader>(
     ensures open { IfOk result (λ s. s.sealed ≡ false) }
     ensures found { IfOk result (λ s. IsHonest over_files s
         → (db : Trees) × AreFoundIn (image_at S.Start) db × Begins db (held over_files s)) }
-    ensures read { IfOk result (λ s. IsHonest over_files s
-        → R.ChangeReader.taken reader.new ≡ taken_after (R.ChangeReader.taken reader.old) (held over_files s)) }
+    ensures read { IfOk result (λ s. IsHonest over_files s → R.ChangeReader.taken reader.new
+        ≡ taken_after (R.ChangeReader.taken reader.old) (held over_files s)) }
 {
     let connection = match Connection::open_from(rt, path, false, start) {
         Ok(connection) => connection,

@@ -13,6 +13,7 @@ pub struct ReadBack {
 }
 
 impl ReadBack {
+    /// A reader that was given nothing.
     pub fn new(alloc: Global, greatest: u64) -> ReadBack {
         ReadBack {
             turns: Vec::new(alloc),

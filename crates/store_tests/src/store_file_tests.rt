@@ -78,7 +78,7 @@ fn run(rt: &HostRuntime, path: &str, sql: &str) -> bool {
 }
 
 const OURS: &str =
-    "CREATE TABLE change (turn INTEGER PRIMARY KEY, project INTEGER NOT NULL, entry BLOB NOT NULL) STRICT; INSERT INTO change VALUES (4, 1, x'00')";
+    "CREATE TABLE change (turn INTEGER PRIMARY KEY, project INTEGER NOT NULL, entry BLOB NOT NULL); INSERT INTO change VALUES (4, 1, x'00')";
 
 static REFUSED: [(&str, &str, Option<OpenFault>); 6] = [
     ("store_tests_refused/ours.db", "SELECT 1", None),
