@@ -1,5 +1,6 @@
 -- What an open makes and finds.
-use Rattle.std.proofs.Common.{◌≡◌, ◌≢◌, ◌<◌, ◌^◌, ℕ, ℤ, pos, false, true, List, [], ◌∷◌, ◌++◌, map, take, length, refl, sym, ap, subst, ◌∙◌, arith, IsTrue}
+use Rattle.std.proofs.Common.{◌≡◌, ◌≢◌, ◌<◌, ◌^◌, ℕ, ℤ, pos, false, true, List, [], ◌∷◌, ◌++◌, Option, map, take, length, append_assoc, append-nil, refl, sym, ap, subst, ◌∙◌, arith, IsTrue}
+use Rattle.sqlite_exec.specs.Calls.{OnlyReads}
 use Rattle.sqlite_value.specs.declared.value.Value.{Value}
 use Rattle.sqlite_value.specs.declared.value.Value.TheVariants.{Null, Int, Text, Blob}
 use Rattle.sqlite_value.specs.Order.{Row, column}
@@ -8,8 +9,9 @@ use Rattle.sqlite_trees.specs.Objects.{catalog_tree, Creates, object_row}
 use Rattle.sqlite_trees.specs.View.{View, Commits}
 use Rattle.sqlite_trees.specs.declared.schema.Object.{Object}
 use Rattle.sqlite_trees.specs.declared.store.Shape.TheVariants.{Table}
-use Rattle.change_store.specs.ChangeRows.{row_of, told_by, table_line, IsChangeAfter, AreChangesAfter, last_after, IsOfChanges}
+use Rattle.change_store.specs.ChangeRows.{StoredChange, row_of, told_by, changes_in, taken_after, table_line, IsChangeAfter, AreChangesAfter, last_after, IsOfChanges}
 use Rattle.change_store.specs.StoreReads.{IsSettled, HasTable, LacksTable, IsReady, Begins}
+use Rattle.change_store.proofs.RowLemmas.{one_more, last_of_more, changes_of_more, in_the_middle, taken_twice, taken_none}
 
 -- a list of no lines
 pub none_listed : (rows : List Row) → map (take 5) rows ≡ [] → rows ≡ []
@@ -56,7 +58,43 @@ table_ready v0 v1 n o lacks settled shape reals line made kept =
           plain = ap (λ (v : View). v.reals 0) kept.is ∙ ap (λ (v : View). v.reals 0) made.is ∙ reals;
         };
         rows = subst (λ (rows : List Row). AreChangesAfter 0 rows) (sym none) tt;
-        last = sym (ap (last_after 0) none);
+        greatest = sym (ap (last_after 0) none);
       },
       none,
     )
+
+-- what was told so far: some rows are done, and the others are left
+abbrev pub Told : List Row → List Row → ℕ → Option (List StoredChange) → Option (List StoredChange) → Type 0
+Told whole left last before now = (done : List Row) × (whole ≡ done ++ left) × AreChangesAfter 0 done × (last ≡ last_after 0 done) × (now ≡ taken_after before (changes_in done))
+
+pub told_none : (left : List Row) (taken : Option (List StoredChange)) → Told left left 0 taken taken
+told_none left taken = ([], refl, tt, refl, sym (taken_none taken))
+
+pub told_more : (whole left rest : List Row) (row : Row) (last turn : ℕ) (before now later : Option (List StoredChange)) → Told whole left last before now → left ≡ row ∷ rest → IsChangeAfter last row
+    → turn ≡ (told_by row).turn → later ≡ taken_after now (told_by row ∷ []) → Told whole rest turn before later
+told_more whole left rest row last turn before now later told step is at takes =
+    let done = told.0 in (
+      done ++ row ∷ [],
+      told.1 ∙ ap (λ (x : List Row). done ++ x) step ∙ sym (append_assoc done (row ∷ []) rest),
+      one_more 0 done row told.2 (subst (λ (n : ℕ). IsChangeAfter n row) told.3 is),
+      at ∙ sym (last_of_more 0 done row),
+      takes ∙ ap (λ (x : Option (List StoredChange)). taken_after x (told_by row ∷ [])) told.4 ∙ taken_twice before (changes_in done) (told_by row ∷ []) ∙ ap (taken_after before) (sym (changes_of_more done row)),
+    )
+
+pub told_all : (whole left : List Row) (last : ℕ) (before now : Option (List StoredChange)) → Told whole left last before now → left ≡ []
+    → AreChangesAfter 0 whole × (last ≡ last_after 0 whole) × (now ≡ taken_after before (changes_in whole))
+told_all whole left last before now told end =
+    let same : told.0 ≡ whole = sym (told.1 ∙ ap (λ (x : List Row). told.0 ++ x) end ∙ append-nil told.0) in (
+      subst (AreChangesAfter 0) same told.2,
+      told.3 ∙ ap (last_after 0) same,
+      told.4 ∙ ap (λ (x : List Row). taken_after before (changes_in x)) same,
+    )
+
+pub told_bad : (whole left rest : List Row) (row : Row) (last : ℕ) (before now : Option (List StoredChange)) → Told whole left last before now → left ≡ row ∷ rest → (IsChangeAfter last row → ⊥)
+    → AreChangesAfter 0 whole → ⊥
+told_bad whole left rest row last before now told step none all =
+    none (subst (λ (n : ℕ). IsChangeAfter n row) (sym told.3) (in_the_middle 0 told.0 row rest (subst (AreChangesAfter 0) (told.1 ∙ ap (λ (x : List Row). told.0 ++ x) step) all)))
+
+-- reading twice is reading
+pub reads_on : (a b d : View) → OnlyReads a b → OnlyReads b d → OnlyReads a d
+reads_on a b d first second = second ∙ ap (λ (v : View). record v { cursors = d.cursors }) first

@@ -15,7 +15,7 @@ lower_key m n h = value_cmp-Int (pos m) (pos n) ∙ grind (arith, ints, nat_test
 
 -- a row of a change has its turn as its key
 key_of : (last : ℕ) (row : Row) → IsChangeAfter last row → rowid row ≡ Int (pos (told_by row).turn)
-key_of last row is = ap rowid is.row
+key_of last row is = ap rowid is.spelled
 
 -- turns don't fall from row to row
 pub not_below : (n : ℕ) (rows : List Row) → AreChangesAfter n rows → n ≤ last_after n rows

@@ -43,7 +43,7 @@ taken_after taken changes = option_map (λ done. done ++ changes) taken
 
 -- a row of a change after that turn
 pub record IsChangeAfter (last : ℕ) (row : Row) : Type 0 where
-  pub row : row ≡ row_of (told_by row)
+  pub spelled : row ≡ row_of (told_by row)
   pub turn : last < (told_by row).turn
   pub project : (told_by row).project < 2 ^ 32
 

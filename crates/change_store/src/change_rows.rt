@@ -57,6 +57,8 @@ pub(crate) fn commit_row<S: Store>(
         → IfErr result (IsCauseOf (MoreFaults (S.Store.faults store.old) (S.Store.faults store.new))) }
 {
     fill(row, turn, project, bytes)?;
-    store.put(CHANGES, row)?;
-    store.commit()
+    match store.put(CHANGES, row) {
+        Ok(()) => store.commit(),
+        Err(error) => Err(error),
+    }
 }

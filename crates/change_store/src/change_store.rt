@@ -91,15 +91,14 @@ impl<S: Store> ChangeStore<S> {
             return Err(AppendFault::Sealed);
         }
         self.sealed = true;
-        let done = commit_row(
+        match commit_row(
             &mut self.store,
             &mut self.row,
             self.last,
             turn,
             project,
             bytes,
-        );
-        match done {
+        ) {
             Ok(()) => {
                 self.last = turn;
                 self.sealed = false;

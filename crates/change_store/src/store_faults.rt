@@ -1,5 +1,5 @@
 //! Why a store is not opened, and why a change is not added to one.
-ghost use Rattle.std.specs.Prelude.{◌≡◌};
+ghost use Rattle.std.specs.Prelude.{◌≡◌, ◌≢◌};
 ghost use Rattle.change_store.specs.Faults.{named_at_append, named_at_open};
 
 use sqlite_trees::error::StoreError;
@@ -54,7 +54,8 @@ pub(crate) fn append_fault(error: StoreError) -> AppendFault
 
 // What a fault of the database is called where a store is opened.
 pub(crate) fn open_fault(error: StoreError) -> OpenFault
-    ensures { result ≡ named_at_open error }
+    ensures value { result ≡ named_at_open error }
+    ensures kind { (result ≢ OpenFault.OtherTables) × (result ≢ OpenFault.BadRow) }
 {
     match error {
         StoreError::OutOfMemory => OpenFault::OutOfMemory,

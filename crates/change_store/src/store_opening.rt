@@ -1,11 +1,12 @@
 //! A database is opened as a store of changes.
-ghost use Rattle.std.specs.Prelude.{◌≡◌, ◌≢◌, ◌⊎◌, ◌≤◌, ◌∷◌, [], false, Err, Some, IfOk, IfErr, OnOk, MatchBool, MatchOption, IsTrue};
+ghost use Rattle.std.specs.Prelude.{◌≡◌, ◌≢◌, ◌⊎◌, ◌≤◌, ◌∷◌, [], false, Err, Some, IfOk, IfErr, OnOk, MatchBool, MatchOption, IsTrue, IsSome};
 ghost use Rattle.sqlite_value.specs.declared.value.Value.TheVariants.{Null, Int, Blob};
 ghost use Rattle.sqlite_exec.specs.Calls.{OnlyReads};
+ghost use Rattle.sqlite_exec.specs.Loops.{left_of};
 ghost use Rattle.sqlite_trees.specs.Tree.{Trees};
-ghost use Rattle.sqlite_trees.specs.View.{IsClean, doubt, IsQuiet};
+ghost use Rattle.sqlite_trees.specs.View.{IsClean, doubt};
 ghost use Rattle.change_store.specs.ChangeRows.{changes_in, told_by, taken_after, table_line, IsChangeAfter, AreChangesAfter, last_after, IsOfChanges};
-ghost use Rattle.change_store.specs.StoreReads.{IsSettled, HasTable, LacksTable, IsReady, Begins};
+ghost use Rattle.change_store.specs.StoreReads.{IsSettled, HasTable, LacksTable, IsReady, Begins, TellsNext, told_next, RefusesNext};
 ghost use Rattle.change_store.specs.StoreStates.{IsHonest, held};
 
 use crate::change_reader::ChangeReader;
@@ -59,6 +60,7 @@ fn finds_table<S: Alter>(alloc: Global, store: &S) -> Result<bool, OpenFault>
 }
 
 // Makes the table in a database that has none.
+#[tactic(auto, using(crate::proofs::OpeningLemmas::table_made, crate::proofs::OpeningLemmas::table_ready))]
 fn make_table<S: Alter>(store: &mut S) -> Result<(), StoreError>
     requires numbered { IsClean (S.Store.view store.old)
         → IsTrue (S.Store.view store.old).is_numbered }
@@ -122,6 +124,72 @@ fn tell_row<R: ChangeReader>(row: &Row, last: u64, reader: &mut R) -> Result<u64
     }
 }
 
+// Tells the reader the next row that the cursor has left, and says its turn, or that none is left.
+#[tactic(auto, using(sqlite_exec::proofs::CheckLemmas::stepped, sqlite_exec::proofs::CheckLemmas::ended))]
+fn tell_next<S: Store, R: ChangeReader>(
+    store: &mut S,
+    row: &mut Row,
+    last: u64,
+    reader: &mut R,
+) -> Result<Option<u64>, OpenFault>
+    requires { IsSome ((S.Store.view store.old).cursors 0) }
+    ensures left { IfOk result (λ told. IsClean (S.Store.view store.new)
+        → TellsNext (S.Store.view store.old) (S.Store.view store.new) row.new last told) }
+    ensures taken { IfOk result (λ told. R.ChangeReader.taken reader.new
+        ≡ taken_after (R.ChangeReader.taken reader.old) (told_next row.new told)) }
+    ensures bad { result ≡ Err OpenFault.BadRow → IsClean (S.Store.view store.new)
+        → RefusesNext (S.Store.view store.old) (S.Store.view store.new) row.new last }
+    ensures live { OnOk result (IsSome ((S.Store.view store.new).cursors 0)) }
+    ensures same { OnOk result (IsClean (S.Store.view store.new)
+        → OnlyReads (S.Store.view store.old) (S.Store.view store.new)) }
+    ensures kind { IfErr result (λ e. e ≢ OpenFault.OtherTables) }
+    ensures crash { (db : Trees) → S.Store.recovers store.new db → S.Store.recovers store.old db }
+    ensures clean { doubt (S.Store.view store.old).is_clean ≤ doubt (S.Store.view store.new).is_clean }
+{
+    match store.next(0, row) {
+        Ok(true) => match tell_row(&*row, last, reader) {
+            Ok(turn) => Ok(Some(turn)),
+            Err(fault) => Err(fault),
+        },
+        Ok(false) => Ok(None),
+        Err(error) => Err(open_fault(error)),
+    }
+}
+
+// Tells the reader each row that the cursor has left, and says the turn of the last.
+#[tactic(auto, using(crate::proofs::OpeningLemmas::told_none, crate::proofs::OpeningLemmas::told_more, crate::proofs::OpeningLemmas::told_all, crate::proofs::OpeningLemmas::told_bad, crate::proofs::OpeningLemmas::reads_on))]
+fn tell_left<S: Store, R: ChangeReader>(
+    store: &mut S,
+    row: &mut Row,
+    reader: &mut R,
+) -> Result<u64, OpenFault>
+    requires { IsSome ((S.Store.view store.old).cursors 0) }
+    ensures rows { OnOk result (IsClean (S.Store.view store.new)
+        → AreChangesAfter 0 (left_of (S.Store.view store.old) 0)) }
+    ensures last { IfOk result (λ last. IsClean (S.Store.view store.new)
+        → last ≡ last_after 0 (left_of (S.Store.view store.old) 0)) }
+    ensures taken { OnOk result (IsClean (S.Store.view store.new) → R.ChangeReader.taken reader.new
+        ≡ taken_after (R.ChangeReader.taken reader.old) (changes_in (left_of (S.Store.view store.old) 0))) }
+    ensures same { OnOk result (IsClean (S.Store.view store.new)
+        → OnlyReads (S.Store.view store.old) (S.Store.view store.new)) }
+    ensures bad { result ≡ Err OpenFault.BadRow → IsClean (S.Store.view store.new)
+        → ¬ AreChangesAfter 0 (left_of (S.Store.view store.old) 0) }
+    ensures kind { IfErr result (λ e. e ≢ OpenFault.OtherTables) }
+    ensures crash { (db : Trees) → S.Store.recovers store.new db → S.Store.recovers store.old db }
+    ensures clean { doubt (S.Store.view store.old).is_clean ≤ doubt (S.Store.view store.new).is_clean }
+{
+    let mut last = 0;
+    // A disk that lies could keep the cursor going, so the loop counts.
+    'rows: for _ in 0..u64::MAX {
+        match tell_next(store, row, last, reader) {
+            Ok(Some(turn)) => last = turn,
+            Ok(None) => return Ok(last),
+            Err(fault) => return Err(fault),
+        }
+    }
+    Err(OpenFault::OutOfMemory)
+}
+
 // Tells the reader each row of the table, and says the turn of the last.
 fn tell_rows<S: Store, R: ChangeReader>(
     alloc: Global,
@@ -140,23 +208,14 @@ fn tell_rows<S: Store, R: ChangeReader>(
     ensures bad { result ≡ Err OpenFault.BadRow → IsClean (S.Store.view store.new)
         → ¬ AreChangesAfter 0 ((S.Store.view store.old).trees 0) }
     ensures kind { IfErr result (λ e. e ≢ OpenFault.OtherTables) }
-    ensures quiet { IsQuiet S.Store.view S.Store.faults S.Store.recovers S.Store.is_shielded
-        store.old store.new }
+    ensures crash { (db : Trees) → S.Store.recovers store.new db → S.Store.recovers store.old db }
+    ensures clean { doubt (S.Store.view store.old).is_clean ≤ doubt (S.Store.view store.new).is_clean }
 {
     let mut row = Row::new(alloc);
-    if let Err(error) = store.seek(0, CHANGES, &row, Direction::Forward) {
-        return Err(open_fault(error));
+    match store.seek(0, CHANGES, &row, Direction::Forward) {
+        Ok(()) => tell_left(store, &mut row, reader),
+        Err(error) => Err(open_fault(error)),
     }
-    let mut last = 0;
-    // A disk that lies could keep the cursor going, so the loop counts.
-    'rows: for _ in 0..u64::MAX {
-        match store.next(0, &mut row) {
-            Ok(true) => last = tell_row(&row, last, reader)?,
-            Ok(false) => return Ok(last),
-            Err(error) => return Err(open_fault(error)),
-        }
-    }
-    Err(OpenFault::OutOfMemory)
 }
 
 // Makes the table where there is none, tells the reader its rows and says the turn of the last.
