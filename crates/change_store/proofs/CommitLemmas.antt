@@ -1,5 +1,5 @@
 -- What a commit of one more row leaves.
-use Rattle.std.proofs.Common.{◌≡◌, ◌<◌, ◌≤◌, ◌^◌, ℕ, pos, true, false, Result, Ok, Err, OnOk, IfErr, List, [], ◌∷◌, ◌++◌, length, map, take, refl, sym, ap, subst, ◌∙◌, true≢false, arith, IsTrue}
+use Rattle.std.proofs.Common.{◌≡◌, ◌<◌, ◌≤◌, ◌^◌, ℕ, pos, true, false, Result, Ok, Err, OnOk, IfOk, IfErr, List, [], ◌∷◌, ◌++◌, length, map, take, refl, sym, ap, subst, ◌∙◌, true≢false, arith, IsTrue}
 use Rattle.std.proofs.lemmas.List.Elements.{All-from_recursion}
 use Rattle.std.proofs.lemmas.Nat.Bits.{bit_at-zero}
 use Rattle.std.specs.Float.{NotNan}
@@ -99,3 +99,11 @@ append_cause v a b d U Unstorable sound up none h = absurd (none h)
 pub on_err : {A E : Type 0} {P Q : E → Type 0} (r : Result A E) → ((e : E) → P e → Q e) → IfErr r P → IfErr r Q
 on_err (Ok x) f p = tt
 on_err (Err e) f p = f e p
+
+pub on_if_ok : {A E : Type 0} {P Q : A → Type 0} (r : Result A E) → ((x : A) → P x → Q x) → IfOk r P → IfOk r Q
+on_if_ok (Ok x) f p = f x p
+on_if_ok (Err e) f p = tt
+
+-- a put leaves the transaction as sound as it was
+pub sound_after : (v0 v1 : View) (row : Row) → SetsTree v0 v1 0 (put_row row) → v0.is_broken ≡ false → v1.is_broken ≡ false
+sound_after v0 v1 row sets sound = ap (λ (v : View). v.is_broken) sets.is ∙ sound

@@ -1,12 +1,16 @@
 -- What an open makes and finds.
 use Rattle.std.proofs.Common.{◌≡◌, ◌≢◌, ◌<◌, ◌^◌, ℕ, ℤ, pos, false, true, List, [], ◌∷◌, ◌++◌, Option, map, take, length, append_assoc, append-nil, refl, sym, ap, subst, ◌∙◌, arith, IsTrue}
 use Rattle.sqlite_exec.specs.Calls.{OnlyReads}
+use Rattle.sqlite_exec.specs.Loops.{left_of}
+use Rattle.sqlite_exec.proofs.CheckLemmas.{placed, from_no_key}
+use Rattle.sqlite_value.specs.declared.keys.Order.{Order}
+use Rattle.sqlite_trees.specs.declared.store.Direction.TheVariants.{Forward}
 use Rattle.sqlite_value.specs.declared.value.Value.{Value}
 use Rattle.sqlite_value.specs.declared.value.Value.TheVariants.{Null, Int, Text, Blob}
 use Rattle.sqlite_value.specs.Order.{Row, column}
-use Rattle.sqlite_trees.specs.Tree.{Trees}
+use Rattle.sqlite_trees.specs.Tree.{Trees, sought, from_key}
 use Rattle.sqlite_trees.specs.Objects.{catalog_tree, Creates, object_row}
-use Rattle.sqlite_trees.specs.View.{View, Commits}
+use Rattle.sqlite_trees.specs.View.{View, Commits, with_cursor}
 use Rattle.sqlite_trees.specs.declared.schema.Object.{Object}
 use Rattle.sqlite_trees.specs.declared.store.Shape.TheVariants.{Table}
 use Rattle.change_store.specs.ChangeRows.{StoredChange, row_of, told_by, changes_in, taken_after, table_line, IsChangeAfter, AreChangesAfter, last_after, IsOfChanges}
@@ -98,3 +102,8 @@ told_bad whole left rest row last before now told step none all =
 -- reading twice is reading
 pub reads_on : (a b d : View) → OnlyReads a b → OnlyReads b d → OnlyReads a d
 reads_on a b d first second = second ∙ ap (λ (v : View). record v { cursors = d.cursors }) first
+
+-- a seek by no key finds all rows
+pub sought_all : (v0 v1 : View) (o : Order) (key : Row) (es : List Row) → key ≡ [] → v1 ≡ with_cursor v0 0 (sought o Forward key es) → left_of v1 0 ≡ es
+sought_all v0 v1 o key es none is =
+    ap (λ (v : View). left_of v 0) is ∙ placed v0 0 (sought o Forward key es) ∙ ap (λ (k : Row). from_key o k es) none ∙ from_no_key o es

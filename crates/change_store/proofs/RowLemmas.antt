@@ -1,5 +1,6 @@
 -- Rows of changes, of which the last has the greatest turn.
 use Rattle.std.proofs.Common.{◌≡◌, ◌<◌, ◌≤◌, ℕ, pos, List, [], ◌∷◌, ◌++◌, Option, Some, None, append_assoc, append-nil, refl, ap, ◌∙◌, arith, Less}
+use Rattle.std.specs.List.{AllByRecursion}
 use Rattle.std.proofs.lemmas.Int.{ints}
 use Rattle.std.proofs.lemmas.Bool.Decides.{nat_tests}
 use Rattle.sqlite_value.specs.declared.value.Value.{Value}
@@ -7,7 +8,7 @@ use Rattle.sqlite_value.specs.declared.value.Value.TheVariants.{Int}
 use Rattle.sqlite_value.specs.Order.{Row, value_cmp}
 use Rattle.sqlite_value.proofs.OrderLemmas.{value_cmp-Int}
 use Rattle.sqlite_trees.specs.Tree.{rowid, put_row}
-use Rattle.change_store.specs.ChangeRows.{StoredChange, row_of, told_by, changes_in, taken_after, IsChangeAfter, AreChangesAfter, last_after}
+use Rattle.change_store.specs.ChangeRows.{StoredChange, row_of, told_by, changes_in, taken_after, IsChangeAfter, AreChangesAfter, HasRisingTurns, last_after}
 
 -- a lower turn is a lower key
 lower_key : (m n : ℕ) → m < n → value_cmp (Int (pos m)) (Int (pos n)) ≡ Less
@@ -55,3 +56,13 @@ taken_twice (Some done) some more = ap Some (append_assoc done some more)
 pub taken_none : (taken : Option (List StoredChange)) → taken_after taken [] ≡ taken
 taken_none None = refl
 taken_none (Some done) = ap Some (append-nil done)
+
+-- changes after some turn are above each lower one
+all_above : (m n : ℕ) → m ≤ n → (rows : List Row) → AreChangesAfter n rows → AllByRecursion (λ (c : StoredChange). m < c.turn) (changes_in rows)
+all_above m n low [] all = tt
+all_above m n low (row ∷ rows) all = (omega (arith, all.0.turn), all_above m (told_by row).turn (omega (arith, all.0.turn)) rows all.1)
+
+-- so their turns rise
+pub rising : (n : ℕ) (rows : List Row) → AreChangesAfter n rows → HasRisingTurns (changes_in rows)
+rising n [] all = tt
+rising n (row ∷ rows) all = (all_above (told_by row).turn (told_by row).turn (omega arith) rows all.1, rising (told_by row).turn rows all.1)

@@ -133,7 +133,9 @@ impl<S: Store> ChangeStore<S> {
             → (found : List StoredChange) → MayFind S.Store self.now found → HasRisingTurns found }
         ensures sound { IsHonest S.Store self.now
             → (db : Trees) → S.Store.recovers self.now.store db → IsOfChanges db }
-    {}
+    {
+        let _ = &self.store;
+    }
 
     /// Gives the database back, with no IO.
     pub fn into_store(self) -> S

@@ -1,7 +1,7 @@
 use Rattle.std.proofs.Common.{◌≤◌, ap, sym, subst, ◌∙◌, inl, inr, ⊎_elim, arith}
 use Rattle.sqlite_trees.specs.View.{IsClean}
 use Rattle.change_store.specs.ChangeRows.{change_of, IsOfChanges}
-use Rattle.change_store.proofs.CommitLemmas.{rows_put, trees_put, ready_again, rows_committed, row_storable, append_cause, on_ok, on_err}
+use Rattle.change_store.proofs.CommitLemmas.{rows_put, trees_put, ready_again, rows_committed, row_storable, append_cause, sound_after, on_ok, on_err}
 use Rattle.change_store.proofs.change_rows.commit_row.Goals as goal
 
 pub returns-in-Ok-clause-ready : goal.returns-in-Ok-clause-ready
@@ -38,11 +38,11 @@ pub returns-in-Ok-clause-cause : goal.returns-in-Ok-clause-cause
 returns-in-Ok-clause-cause g c clean =
     let between : IsClean (g.S.Store.view c.put.new.self) = omega (arith, c.commit.ensures.clean, clean) in
     let before : IsClean (g.S.Store.view c.args.store.now) = omega (arith, c.put.ensures.quiet.clean, between) in
-    let sound = ap (λ v. v.is_broken) (c.in-Ok.ensures.ok between).is ∙ (c.requires.ready before).settled.sound in
-    on_err c.commit.result (λ e h. append_cause _ _ _ _ _ e sound c.put.ensures.quiet.counts (λ x. x) h) (c.commit.ensures.cause clean)
+    let sound = sound_after _ _ _ (c.in-Ok.ensures.ok between) (c.requires.ready before).settled.sound in
+    on_err c.commit.result (λ e h. append_cause (g.S.Store.view c.put.new.self) _ _ _ _ e sound c.put.ensures.quiet.counts (λ x. x) h) (c.commit.ensures.cause clean)
 
 pub returns-in-Err-clause-cause : goal.returns-in-Err-clause-cause
 returns-in-Err-clause-cause g c clean =
     let before : IsClean (g.S.Store.view c.args.store.now) = omega (arith, c.put.ensures.quiet.clean, clean) in
     let ready = c.requires.ready before in
-    append_cause _ _ _ _ _ c.in-Err.error ready.settled.sound (omega arith) (λ none. none (rw (c.in_ok-fill.ensures, ready.table.plain) (row_storable (change_of c.args.turn c.args.project c.args.bytes.now) (omega arith)))) (c.in-Err.ensures.cause clean)
+    append_cause (g.S.Store.view c.args.store.now) _ _ _ _ c.in-Err.error ready.settled.sound (omega arith) (λ none. none (rw (c.in_ok-fill.ensures, ready.table.plain) (row_storable (change_of c.args.turn c.args.project c.args.bytes.now) (omega arith)))) (c.in-Err.ensures.cause clean)
