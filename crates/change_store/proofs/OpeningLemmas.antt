@@ -1,5 +1,5 @@
 -- What an open makes and finds.
-use Rattle.std.proofs.Common.{◌≡◌, ◌≢◌, ◌<◌, ◌^◌, ℕ, ℤ, pos, false, true, List, [], ◌∷◌, ◌++◌, Option, map, take, length, append_assoc, append-nil, refl, sym, ap, subst, ◌∙◌, arith, IsTrue}
+use Rattle.std.proofs.Common.{◌≡◌, ◌≢◌, ◌<◌, ◌^◌, ℕ, ℤ, pos, false, true, List, [], ◌∷◌, ◌++◌, Option, map, take, length, append_assoc, append-nil, refl, sym, ap, subst, ◌∙◌, inl, inr, arith, IsTrue}
 use Rattle.sqlite_exec.specs.Calls.{OnlyReads}
 use Rattle.sqlite_exec.specs.Loops.{left_of}
 use Rattle.sqlite_exec.proofs.CheckLemmas.{placed, from_no_key}
@@ -107,3 +107,31 @@ reads_on a b d first second = second ∙ ap (λ (v : View). record v { cursors =
 pub sought_all : (v0 v1 : View) (o : Order) (key : Row) (es : List Row) → key ≡ [] → v1 ≡ with_cursor v0 0 (sought o Forward key es) → left_of v1 0 ≡ es
 sought_all v0 v1 o key es none is =
     ap (λ (v : View). left_of v 0) is ∙ placed v0 0 (sought o Forward key es) ∙ ap (λ (k : Row). from_key o k es) none ∙ from_no_key o es
+
+-- what was read whole and is one of changes is ready
+pub reads_ready : (old new : View) (last : ℕ) → IsSettled old → HasTable old → OnlyReads old new → AreChangesAfter 0 (old.trees 0) → last ≡ last_after 0 (old.trees 0) → IsReady new last
+reads_ready old new last settled table reads rows at =
+    let same : new.committed 0 ≡ old.trees 0 = ap (λ (v : View). v.committed 0) reads ∙ ap (λ (t : Trees). t 0) (sym settled.settled) in record {
+      settled = record {
+        is_open = subst IsTrue (sym (ap (λ (v : View). v.is_open) reads)) settled.is_open;
+        sound = ap (λ (v : View). v.is_broken) reads ∙ settled.sound;
+        settled = ap (λ (v : View). v.trees) reads ∙ settled.settled ∙ sym (ap (λ (v : View). v.committed) reads);
+      };
+      table = record {
+        listed = ap (λ (v : View). map (take 5) (v.trees catalog_tree)) reads ∙ table.listed;
+        shape = ap (λ (v : View). v.shape 0) reads ∙ table.shape;
+        plain = ap (λ (v : View). v.reals 0) reads ∙ table.plain;
+      };
+      rows = subst (AreChangesAfter 0) (sym same) rows;
+      greatest = at ∙ ap (last_after 0) (sym same);
+    }
+
+-- it was read whole, so what is committed is what was found
+pub reads_same : (old new : View) → IsSettled old → OnlyReads old new → changes_in (old.trees 0) ≡ changes_in (new.committed 0)
+reads_same old new settled reads = ap (λ (t : Trees). changes_in (t 0)) settled.settled ∙ sym (ap (λ (v : View). changes_in (v.committed 0)) reads)
+
+pub reads_found : (old new : View) → IsSettled old → HasTable old → OnlyReads old new → AreChangesAfter 0 (old.trees 0) → Begins old.trees (changes_in (new.committed 0))
+reads_found old new settled table reads rows = inl (record { listed = table.listed; rows = rows }, sym (reads_same old new settled reads))
+
+pub made_found : (old new : View) → LacksTable old → new.committed 0 ≡ [] → Begins old.trees (changes_in (new.committed 0))
+made_found old new lacks none = inr (lacks.unlisted, ap changes_in none)
