@@ -1,5 +1,5 @@
 -- What a commit of one more row leaves.
-use Rattle.std.proofs.Common.{◌≡◌, ◌<◌, ◌≤◌, ◌^◌, ℕ, pos, true, false, Result, Ok, Err, OnOk, IfOk, IfErr, List, [], ◌∷◌, ◌++◌, length, map, take, refl, sym, ap, subst, ◌∙◌, true≢false, arith, IsTrue}
+use Rattle.std.proofs.Common.{◌≡◌, ◌<◌, ◌≤◌, ◌^◌, ℕ, pos, Bool, true, false, Result, Ok, Err, OnOk, IfOk, IfErr, List, [], ◌∷◌, ◌++◌, length, map, take, refl, sym, ap, subst, ◌∙◌, true≢false, arith, IsTrue}
 use Rattle.std.proofs.lemmas.List.Elements.{All-from_recursion}
 use Rattle.std.proofs.lemmas.Nat.Bits.{bit_at-zero}
 use Rattle.std.specs.Float.{NotNan}
@@ -8,7 +8,7 @@ use Rattle.sqlite_disk.specs.Disk.{MoreFaults}
 use Rattle.sqlite_value.specs.declared.value.Value.{Value}
 use Rattle.sqlite_trees.specs.declared.error.StoreError.{StoreError}
 use Rattle.sqlite_trees.specs.declared.error.StoreError.TheVariants.{OutOfMemory, Io, Corrupt, Full, Broken, Unstorable}
-use Rattle.change_store.specs.Faults.{IsCauseOf}
+use Rattle.change_store.specs.Faults.{IsCauseOf, AppendCause, named_at_append}
 use Rattle.sqlite_value.specs.Order.{Row, number}
 use Rattle.sqlite_trees.specs.Tree.{Trees, put_row, with_tree}
 use Rattle.sqlite_trees.specs.Objects.{catalog_tree}
@@ -107,3 +107,12 @@ on_if_ok (Err e) f p = tt
 -- a put leaves the transaction as sound as it was
 pub sound_after : (v0 v1 : View) (row : Row) → SetsTree v0 v1 0 (put_row row) → v0.is_broken ≡ false → v1.is_broken ≡ false
 sound_after v0 v1 row sets sound = ap (λ (v : View). v.is_broken) sets.is ∙ sound
+
+-- the cause of a fault by its name
+pub named_cause : (a b : ℕ) (sealed : Bool) (e : StoreError) → IsCauseOf (MoreFaults a b) e → AppendCause a b sealed (named_at_append e)
+named_cause a b sealed OutOfMemory h = tt
+named_cause a b sealed Io h = h
+named_cause a b sealed Corrupt h = h
+named_cause a b sealed Full h = h
+named_cause a b sealed Broken h = h
+named_cause a b sealed Unstorable h = h

@@ -1,5 +1,6 @@
 -- What an open makes and finds.
 use Rattle.std.proofs.Common.{◌≡◌, ◌≢◌, ◌<◌, ◌^◌, ℕ, ℤ, pos, false, true, List, [], ◌∷◌, ◌++◌, Option, map, take, length, append_assoc, append-nil, refl, sym, ap, subst, ◌∙◌, inl, inr, arith, IsTrue}
+use Rattle.std.proofs.lemmas.Bool.{true_from_ne_false, both_ways}
 use Rattle.sqlite_exec.specs.Calls.{OnlyReads}
 use Rattle.sqlite_exec.specs.Loops.{left_of}
 use Rattle.sqlite_exec.proofs.CheckLemmas.{placed, from_no_key}
@@ -10,7 +11,7 @@ use Rattle.sqlite_value.specs.declared.value.Value.TheVariants.{Null, Int, Text,
 use Rattle.sqlite_value.specs.Order.{Row, column}
 use Rattle.sqlite_trees.specs.Tree.{Trees, sought, from_key}
 use Rattle.sqlite_trees.specs.Objects.{catalog_tree, Creates, object_row}
-use Rattle.sqlite_trees.specs.View.{View, Commits, with_cursor}
+use Rattle.sqlite_trees.specs.View.{View, Commits, IsClean, IsRolledBack, with_cursor}
 use Rattle.sqlite_trees.specs.declared.schema.Object.{Object}
 use Rattle.sqlite_trees.specs.declared.store.Shape.TheVariants.{Table}
 use Rattle.change_store.specs.ChangeRows.{StoredChange, row_of, told_by, changes_in, taken_after, table_line, IsChangeAfter, AreChangesAfter, last_after, IsOfChanges}
@@ -135,3 +136,15 @@ reads_found old new settled table reads rows = inl (record { listed = table.list
 
 pub made_found : (old new : View) → LacksTable old → new.committed 0 ≡ [] → Begins old.trees (changes_in (new.committed 0))
 made_found old new lacks none = inr (lacks.unlisted, ap changes_in none)
+
+-- a store that isn't broken is open
+pub open_settled : (v : View) → (v.is_open ≡ false → IsTrue v.is_broken) → v.is_broken ≡ false → v.trees ≡ v.committed → IsSettled v
+open_settled v shut sound settled = record { is_open = true_from_ne_false _ (λ closed. both_ways _ sound (shut closed)); sound = sound; settled = settled }
+
+-- a store that was rolled back and isn't broken shows what was committed
+pub undone_trees : (old new : View) → IsRolledBack old new → (new.is_open ≡ false → IsTrue new.is_broken) → new.is_broken ≡ false → new.trees ≡ old.committed
+undone_trees old new undone shut sound = (undone.undone (true_from_ne_false _ (λ closed. both_ways _ sound (shut closed)))).0
+
+pub undone_settled : (old new : View) → IsRolledBack old new → IsClean new → (new.is_open ≡ false → IsTrue new.is_broken) → new.is_broken ≡ false → new.trees ≡ new.committed
+undone_settled old new undone clean shut sound =
+    undone_trees old new undone shut sound ∙ sym ((undone.kept clean).committed (true_from_ne_false _ (λ closed. both_ways _ sound (shut closed))))

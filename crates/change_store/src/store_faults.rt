@@ -41,7 +41,8 @@ pub enum OpenFault {
 
 // What a fault of the database is called where a change is added.
 pub(crate) fn append_fault(error: StoreError) -> AppendFault
-    ensures { result ≡ named_at_append error }
+    ensures value { result ≡ named_at_append error }
+    ensures kind { result ≢ AppendFault.Sealed }
 {
     match error {
         StoreError::OutOfMemory => AppendFault::OutOfMemory,

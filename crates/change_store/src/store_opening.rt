@@ -219,6 +219,7 @@ fn tell_rows<S: Store, R: ChangeReader>(
 }
 
 // Makes the table where there is none, tells the reader its rows and says the turn of the last.
+#[tactic(auto, using(crate::proofs::OpeningLemmas::reads_ready, crate::proofs::OpeningLemmas::reads_same, crate::proofs::OpeningLemmas::reads_found, crate::proofs::OpeningLemmas::made_found))]
 fn begin<S: Alter, R: ChangeReader>(
     alloc: Global,
     store: &mut S,

@@ -17,7 +17,7 @@ rows-preserved g c = (
   omega (arith, c.rows.invariant.1, c.tell_next.ensures.clean),
   λ db left. c.rows.invariant.2 db (c.tell_next.ensures.crash db left),
   λ clean. reads_on _ _ _ (c.rows.invariant.3 (omega (arith, c.tell_next.ensures.clean, clean))) (c.in-Ok-Some.ensures.same clean),
-  λ clean. let told = c.in-Ok-Some.ensures.left clean in
+  λ clean. let told = rw c.in-Ok-Some.field-0-is at (c.in-Ok-Some.ensures.left clean) in
       told_more (left_of (g.S.Store.view c.args.store.now) 0) (left_of (g.S.Store.view c.rows.store) 0) (left_of (g.S.Store.view c.tell_next.new.store) 0) c.tell_next.new.row c.rows.last c.in-Ok-Some.turn
-      (g.R.ChangeReader.taken c.args.reader.now) (g.R.ChangeReader.taken c.rows.reader) (g.R.ChangeReader.taken c.tell_next.new.reader) (c.rows.invariant.4 (omega (arith, c.tell_next.ensures.clean, clean))) told.0 told.1 told.2 c.in-Ok-Some.ensures.taken,
+      (g.R.ChangeReader.taken c.args.reader.now) (g.R.ChangeReader.taken c.rows.reader) (g.R.ChangeReader.taken c.tell_next.new.reader) (c.rows.invariant.4 (omega (arith, c.tell_next.ensures.clean, clean))) told.0 told.1 told.2 (rw c.in-Ok-Some.field-0-is at c.in-Ok-Some.ensures.taken),
 )
