@@ -27,6 +27,7 @@ def killed(writer: Writer) -> str:
         expect(told.held in (0, before), f"{told.held} changes were held, and {before} were there")
         expect_kept(path, before, told)
         before = len(turns_in(path))
+    expect(before > 0, "it had time for a change")
     told = writer.run(path, 1, 10)
     expect((told.held, told.status) == (before, 0), "a last start finds all")
     return f"{writer.rounds} rounds, {before} changes"

@@ -3,6 +3,7 @@
 import os
 import random
 import resource
+import signal
 import subprocess
 from dataclasses import dataclass
 
@@ -56,6 +57,8 @@ class Writer:
         """Adds changes, each file being at most so long, and says what was printed."""
 
         def bounded() -> None:
+            # A write beyond the bound is to fail, and not to end the program.
+            signal.signal(signal.SIGXFSZ, signal.SIG_IGN)
             if most is not None:
                 resource.setrlimit(resource.RLIMIT_FSIZE, (most, most))
 
@@ -96,6 +99,10 @@ def turns_in(path: str) -> list[int]:
     """The turns of a file that sqlite3 finds sound, each with its project and its bytes as the
     program writes them."""
     expect(asked(path, "pragma integrity_check") == ["ok"], f"{path} is not sound")
+    tables = asked(path, "select name from sqlite_schema")
+    expect(tables in ([], ["change"]), f"{path} has {tables}")
+    if not tables:
+        return []
     turns = []
     for line in asked(path, "select turn, project, hex(entry) from change order by turn"):
         turn, project, mark = line.split("|")
