@@ -4,8 +4,8 @@ at most the one that was being added.
 
     python3 -m tests.stores PROGRAM [--seed N] [--rounds N] [ROW ..]
 
-PROGRAM is the built crates/store_writer_tests. The seed, which is printed, draws when it is killed and
-where the files are cut.
+PROGRAM is the built crates/store_writer_tests. The seed, which is printed, draws when it is killed
+and where the files are cut.
 """
 
 import sys
