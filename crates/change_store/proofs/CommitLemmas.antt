@@ -116,3 +116,8 @@ named_cause a b sealed Corrupt h = h
 named_cause a b sealed Full h = h
 named_cause a b sealed Broken h = h
 named_cause a b sealed Unstorable h = h
+
+-- the fault of a result, or this one
+pub fault_in : {A E : Type 0} → E → Result A E → E
+fault_in other (Ok x) = other
+fault_in other (Err e) = e

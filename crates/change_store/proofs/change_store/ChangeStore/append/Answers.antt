@@ -5,8 +5,8 @@ use Rattle.change_store.proofs.RowLemmas.{changes_of_more}
 use Rattle.change_store.proofs.CommitLemmas.{named_cause}
 use Rattle.change_store.proofs.change_store.ChangeStore.append.Goals as goal
 
-pub invariant_of-self-in-Ok : goal.invariant_of-self-in-Ok
-invariant_of-self-in-Ok g c = record {
+pub invariant_of-self : goal.invariant_of-self
+invariant_of-self g c = record {
   ready = λ clean unsealed. c.in-Ok.ensures.ready clean;
   found = λ clean db left. ⊎_elim (λ old. c.self.invariant.found (omega (arith, c.commit_row.ensures.clean, clean)) db old) (λ new. new.0) (c.commit_row.ensures.crash clean db left);
 }
