@@ -118,6 +118,11 @@ named_cause a b sealed Broken h = h
 named_cause a b sealed Unstorable h = h
 
 -- the fault of a result, or this one
-pub fault_in : {A E : Type 0} → E → Result A E → E
+fault_in : {A E : Type 0} → E → Result A E → E
 fault_in other (Ok x) = other
 fault_in other (Err e) = e
+
+-- a fault that is handed on is the same
+pub handed_on : {A B E : Type 0} (e x : E) → ◌≡◌ {A = Result A E} (Err e) (Err x) → ◌≡◌ {A = Result B E} (Err e) (Err x)
+unfolding fault_in
+handed_on e x is = ap Err (ap (fault_in e) is)

@@ -1,14 +1,14 @@
-use Rattle.std.proofs.Common.{◌≤◌, Err, ap, arith}
+use Rattle.std.proofs.Common.{◌≤◌, arith}
 use Rattle.sqlite_trees.specs.View.{IsClean}
 use Rattle.sqlite_exec.specs.Loops.{left_of}
-use Rattle.change_store.proofs.CommitLemmas.{fault_in}
+use Rattle.change_store.proofs.CommitLemmas.{handed_on}
 use Rattle.change_store.proofs.OpeningLemmas.{told_more, told_bad, reads_on}
 use Rattle.change_store.proofs.store_opening.tell_left.Goals as goal
 
 pub returns-in-Err-clause-bad : goal.returns-in-Err-clause-bad
 returns-in-Err-clause-bad g c is clean all =
     let before : IsClean (g.S.Store.view c.rows.store) = omega (arith, c.tell_next.ensures.clean, clean) in
-    let refused = c.in-Err.ensures.bad (ap Err (ap (fault_in c.in-Err.fault) is)) clean in
+    let refused = c.in-Err.ensures.bad (handed_on c.in-Err.fault _ is) clean in
     told_bad (left_of (g.S.Store.view c.args.store.now) 0) (left_of (g.S.Store.view c.rows.store) 0) (left_of (g.S.Store.view c.tell_next.new.store) 0) c.tell_next.new.row c.rows.last
     (g.R.ChangeReader.taken c.args.reader.now) (g.R.ChangeReader.taken c.rows.reader) (c.rows.invariant.4 before) refused.0 refused.1 all
 

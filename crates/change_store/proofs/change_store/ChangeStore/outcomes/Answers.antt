@@ -7,7 +7,7 @@ use Rattle.change_store.proofs.change_store.ChangeStore.outcomes.Goals as goal
 
 pub returns-clause-some : goal.returns-clause-some
 returns-clause-some g c =
-    rw (← c.self.view_is) (λ clean. ∥∥₁_map (g.met.S.Store.survives c.self.inside.store clean) (λ left. (changes_in (left.0 0), left.0, left.1, refl)))
+    rw (← c.self.view_is) (λ clean. ∥∥₁_map (g.met.S.Store.survives c.self.inside.store clean) (λ left. (changes_in (left.0 0), (left.0, left.1, refl))))
 
 pub returns-clause-settled : goal.returns-clause-settled
 returns-clause-settled g c =
