@@ -1,5 +1,5 @@
 -- What a commit of one more row leaves.
-use Rattle.std.proofs.Common.{◌≡◌, ◌<◌, ◌≤◌, ◌^◌, ℕ, pos, Bool, true, false, Result, Ok, Err, OnOk, IfOk, IfErr, List, [], ◌∷◌, ◌++◌, length, map, take, refl, sym, ap, subst, ◌∙◌, true≢false, arith, IsTrue}
+use Rattle.std.proofs.Common.{◌≡◌, ◌<◌, ◌≤◌, ◌^◌, ℕ, Bool, false, Result, Ok, Err, OnOk, IfOk, IfErr, List, [], ◌∷◌, ◌++◌, length, map, take, refl, sym, ap, subst, ◌∙◌, true≢false, arith, IsTrue}
 use Rattle.std.proofs.lemmas.List.Elements.{All-from_recursion}
 use Rattle.std.proofs.lemmas.Nat.Bits.{bit_at-zero}
 use Rattle.std.specs.Float.{NotNan}
@@ -10,10 +10,10 @@ use Rattle.sqlite_trees.specs.declared.error.StoreError.{StoreError}
 use Rattle.sqlite_trees.specs.declared.error.StoreError.TheVariants.{OutOfMemory, Io, Corrupt, Full, Broken, Unstorable}
 use Rattle.change_store.specs.Faults.{IsCauseOf, AppendCause, named_at_append}
 use Rattle.sqlite_value.specs.Order.{Row, number}
-use Rattle.sqlite_trees.specs.Tree.{Trees, put_row, with_tree}
+use Rattle.sqlite_trees.specs.Tree.{Trees, put_row}
 use Rattle.sqlite_trees.specs.Objects.{catalog_tree}
 use Rattle.sqlite_trees.specs.View.{View, SetsTree, Commits, HasCause, IsStorableRow}
-use Rattle.change_store.specs.ChangeRows.{StoredChange, row_of, told_by, IsChangeAfter, AreChangesAfter, last_after, IsOfChanges}
+use Rattle.change_store.specs.ChangeRows.{StoredChange, row_of, IsChangeAfter, AreChangesAfter, last_after, IsOfChanges}
 use Rattle.change_store.specs.StoreReads.{IsReady}
 use Rattle.change_store.proofs.RowLemmas.{put_last, one_more, last_of_more}
 

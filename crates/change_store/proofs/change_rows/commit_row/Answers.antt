@@ -1,4 +1,4 @@
-use Rattle.std.proofs.Common.{◌≤◌, ap, sym, subst, ◌∙◌, inl, inr, ⊎_elim, arith}
+use Rattle.std.proofs.Common.{ap, sym, subst, ◌∙◌, inl, inr, ⊎_elim, arith}
 use Rattle.sqlite_trees.specs.View.{IsClean}
 use Rattle.change_store.specs.ChangeRows.{change_of, IsOfChanges}
 use Rattle.change_store.proofs.CommitLemmas.{rows_put, trees_put, ready_again, rows_committed, row_storable, append_cause, sound_after, on_ok, on_err}

@@ -1,4 +1,4 @@
-use Rattle.std.proofs.Common.{◌≤◌, arith}
+use Rattle.std.proofs.Common.{arith}
 use Rattle.sqlite_trees.specs.View.{IsClean}
 use Rattle.sqlite_exec.specs.Loops.{left_of}
 use Rattle.change_store.proofs.CommitLemmas.{handed_on}

@@ -1,8 +1,6 @@
-use Rattle.std.proofs.Common.{◌≡◌, ◌≤◌, ap, sym, subst, ◌∙◌, arith}
+use Rattle.std.proofs.Common.{ap, sym, subst, ◌∙◌, arith}
 use Rattle.sqlite_value.specs.Order.{Row}
 use Rattle.std.proofs.Common.{List}
-use Rattle.sqlite_trees.specs.View.{IsClean}
-use Rattle.sqlite_exec.specs.Loops.{left_of}
 use Rattle.change_store.specs.ChangeRows.{changes_in, taken_after, AreChangesAfter, last_after}
 use Rattle.change_store.proofs.CommitLemmas.{on_ok, on_if_ok}
 use Rattle.change_store.proofs.OpeningLemmas.{sought_all}

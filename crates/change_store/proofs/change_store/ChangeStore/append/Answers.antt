@@ -1,4 +1,4 @@
-use Rattle.std.proofs.Common.{◌≤◌, ap, sym, ◌∙◌, inl, inr, ⊎_elim, arith}
+use Rattle.std.proofs.Common.{ap, ◌∙◌, inl, inr, ⊎_elim, arith}
 use Rattle.sqlite_trees.specs.Tree.{Trees}
 use Rattle.change_store.specs.ChangeRows.{change_of, row_of, changes_in}
 use Rattle.change_store.proofs.RowLemmas.{changes_of_more}
