@@ -5,6 +5,7 @@ use change_store::{ChangeReader, NotTaken};
 use std::alloc::Global;
 
 /// The turn, the project and the bytes of each change, up to a greatest turn.
+#[derive(Drop)]
 pub struct ReadBack {
     pub turns: Vec<u64>,
     pub projects: Vec<u32>,

@@ -47,9 +47,9 @@ fn what_was_added_is_read_again(rt: HostRuntime) -> Result<(), Fail> {
     let last = again.as_ref().map_or(0, |store| store.last_turn());
     drop(again);
     assert_eq!(rt; last, 9);
-    assert!(rt; back.turns.as_slice() == [3, 6, 9]);
-    assert!(rt; back.projects.as_slice() == [2, 0, 7]);
-    assert!(rt; back.bytes.as_slice() == b"onethree");
+    assert!(rt; back.turns.as_slice() == [3, 6, 9].as_slice());
+    assert!(rt; back.projects.as_slice() == [2, 0, 7].as_slice());
+    assert!(rt; back.bytes.as_slice() == b"onethree".as_slice());
     fs::remove_dir_all(&rt, FOLDER)?;
     Ok(())
 }
