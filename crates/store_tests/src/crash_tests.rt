@@ -84,7 +84,10 @@ fn what_a_failed_disk_has_is_what_was_added(rt: HostRuntime) -> Result<(), Fail>
         drop(files);
         assert!(rt; !later);
         assert!(rt; count.is_some_and(|count| count as u64 == added || count as u64 == added + 1));
-        seen_all = seen_all || added == 5;
+        if added == 5 {
+            seen_all = true;
+            break;
+        }
     }
     assert!(rt; seen_all);
     fs::remove_dir_all(&rt, "store_tests_crash")?;
