@@ -1,12 +1,12 @@
 -- What an open makes and finds.
-use Rattle.std.proofs.Common.{◌≡◌, ℕ, false, List, [], ◌∷◌, ◌++◌, Option, map, take, length, append_assoc, append-nil, refl, sym, ap, subst, ◌∙◌, inl, inr, arith, IsTrue}
+use Rattle.std.proofs.Common.{◌≡◌, ℕ, false, List, [], ◌∷◌, ◌++◌, Option, map, take, append_assoc, append-nil, refl, sym, ap, subst, ◌∙◌, inl, inr, IsTrue}
 use Rattle.std.proofs.lemmas.Bool.{true_from_ne_false, both_ways}
 use Rattle.sqlite_exec.specs.Calls.{OnlyReads}
 use Rattle.sqlite_exec.specs.Loops.{left_of}
 use Rattle.sqlite_exec.proofs.CheckLemmas.{placed, from_no_key}
 use Rattle.sqlite_value.specs.declared.keys.Order.{Order}
 use Rattle.sqlite_trees.specs.declared.store.Direction.TheVariants.{Forward}
-use Rattle.sqlite_value.specs.Order.{Row, column}
+use Rattle.sqlite_value.specs.Order.{Row}
 use Rattle.sqlite_trees.specs.Tree.{Trees, sought, from_key}
 use Rattle.sqlite_trees.specs.Objects.{catalog_tree, Creates, object_row}
 use Rattle.sqlite_trees.specs.View.{View, Commits, IsClean, IsRolledBack, with_cursor}
@@ -15,20 +15,6 @@ use Rattle.sqlite_trees.specs.declared.store.Shape.TheVariants.{Table}
 use Rattle.change_store.specs.ChangeRows.{StoredChange, told_by, changes_in, taken_after, table_line, IsChangeAfter, AreChangesAfter, last_after, IsOfChanges}
 use Rattle.change_store.specs.StoreReads.{IsSettled, HasTable, LacksTable, IsReady, Begins}
 use Rattle.change_store.proofs.RowLemmas.{one_more, last_of_more, changes_of_more, in_the_middle, taken_twice, taken_none}
-
--- a list of no lines
-pub none_listed : (rows : List Row) → map (take 5) rows ≡ [] → rows ≡ []
-none_listed [] h = refl
-none_listed (row ∷ rows) h = absurd (cc)
-
--- a row of four columns
-pub four : (row : Row) → length row ≡ 4 → row ≡ column row 0 ∷ column row 1 ∷ column row 2 ∷ column row 3 ∷ []
-four [] h = absurd (omega arith)
-four (a ∷ []) h = absurd (omega arith)
-four (a ∷ b ∷ []) h = absurd (omega arith)
-four (a ∷ b ∷ c ∷ []) h = absurd (omega arith)
-four (a ∷ b ∷ c ∷ d ∷ []) h = refl
-four (a ∷ b ∷ c ∷ d ∷ e ∷ rest) h = absurd (omega arith)
 
 -- the trees with the new table, which has no row
 pub table_made : (v0 v1 : View) (o : Object) → LacksTable v0 → o.shape ≡ Table → map (take 5) (object_row 0 o ∷ []) ≡ table_line ∷ [] → Creates v0 v1 0 o
