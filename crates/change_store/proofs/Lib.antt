@@ -1,0 +1,3 @@
+mod CommitLemmas
+mod OpeningLemmas
+mod RowLemmas
