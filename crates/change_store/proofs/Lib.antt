@@ -1,3 +1,3 @@
 mod CommitLemmas
-mod OpeningLemmas
+pub mod OpeningLemmas
 mod RowLemmas

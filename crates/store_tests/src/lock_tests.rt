@@ -15,12 +15,12 @@ fn add_some<R: Wait>(
     project: u32,
     count: u64,
 ) -> u64 {
-    let mut added = 0;
+    let mut added = 0u64;
     for _ in 0..count {
         let mut store = shared.lock(rt);
         let last = store.last_turn();
         if last < 1_000_000 && store.append(last + 1, project, b"change").is_ok() {
-            added += 1;
+            added = added.saturating_add(1);
         }
     }
     added
