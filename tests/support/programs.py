@@ -6,7 +6,7 @@ import shutil
 import subprocess
 import sys
 
-PACKAGES = {"cc": ["gcc", "libc6-dev"], "curl": ["curl"]}
+PACKAGES = {"cc": ["gcc", "libc6-dev"], "curl": ["curl"], "sqlite3": ["sqlite3"]}
 
 
 def need(program: str) -> None:

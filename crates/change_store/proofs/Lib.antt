@@ -1,0 +1,3 @@
+mod CommitLemmas
+pub mod OpeningLemmas
+mod RowLemmas

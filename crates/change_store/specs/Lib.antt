@@ -1,0 +1,4 @@
+pub mod ChangeRows
+pub mod Faults
+pub mod StoreReads
+pub mod StoreStates
