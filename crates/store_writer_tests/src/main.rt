@@ -12,6 +12,7 @@ use std::io::{self, ErrorKind};
 use std::process::ExitCode;
 
 // Counts the changes, and looks whether their bytes are those that this program writes.
+#[derive(Drop)]
 struct Counted {
     count: u64,
 }
