@@ -18,6 +18,7 @@ import sys
 import tempfile
 from collections.abc import Callable
 from functools import partial
+from statistics import median
 from typing import NamedTuple
 
 from tests.shapes.files import CLASHES, FILES, PLAIN, REQUESTS, Shape
@@ -27,6 +28,7 @@ from tests.support.programs import built
 
 AGAIN = 2  # how often a row above its bound is measured again
 RUNS = 3
+PLAIN_RUNS = 7
 KINDS = {"files": FILES, "clashes": CLASHES, "requests": REQUESTS}
 
 
@@ -65,10 +67,7 @@ class Bench:
     def __init__(self, program: str, folder: str, loose: float) -> None:
         self.program, self.folder, self.loose = program, folder, loose
         self.nothing = least(program, self.file(b""), None).seconds
-        self.plain = {
-            kind: self.seconds(kind, self.file(make()))[0] / len(make())
-            for kind, make in PLAIN.items()
-        }
+        self.plain = {kind: self.for_a_byte(kind, make()) for kind, make in PLAIN.items()}
 
     def file(self, data: bytes) -> str:
         number, path = tempfile.mkstemp(dir=self.folder)
@@ -83,6 +82,14 @@ class Bench:
             return max(whole - least(self.program, data, "0").seconds, 0.0001), output
         whole, output = least(self.program, data, "0")
         return max(whole - self.nothing, 0.0001), output
+
+    def for_a_byte(self, kind: str, data: bytes) -> float:
+        """What a plain session takes for a byte: the middle of some measures, since each is a small
+        difference."""
+        path = self.file(data)
+        taken = median(self.seconds(kind, path)[0] for _ in range(PLAIN_RUNS))
+        os.remove(path)
+        return taken / len(data)
 
     def row(self, kind: str, shape: Shape) -> str:
         """Compares one shape with plain sessions of its kind."""

@@ -273,6 +273,6 @@ REQUESTS = [
 ]
 PLAIN: dict[str, Callable[[], bytes]] = {
     "files": lambda: upload(boxes(4000)),
-    "clashes": lambda: clashes(placed(8000, 100, 9000, 47, 2)),
+    "clashes": lambda: clashes(placed(32_000, 100, 9000, 47, 2)),
     "requests": lambda: topic(b'{"title":"a plain topic","description":"of some words"}') * 4000,
 }
