@@ -23,6 +23,7 @@
 # make .. PROGRAM=path   replay, serve, tests, hostile, cases and check-convert over another program than the built one
 
 SERVER := crates/bim_server/out/bim_server
+STORE_WRITER := crates/store_writer_tests/out/store_writer_tests
 PROGRAM ?= $(SERVER)
 # What stands beside the server, in the order of the gate, which runs each by its target check-NAME.
 BESIDE := convert client api deploy viewer
@@ -66,6 +67,7 @@ serve:
 check: lint
 	rt ci
 	@$(MAKE) --no-print-directory tests PROGRAM=$(SERVER)
+	python3 -m tests.stores $(STORE_WRITER)
 	@for name in $(BESIDE); do $(MAKE) --no-print-directory check-$$name PROGRAM=$(SERVER) || exit; done
 
 lint:
