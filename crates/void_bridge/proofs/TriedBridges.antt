@@ -93,8 +93,8 @@ module _ (current loop : List Corner) (i j : ℕ) (h : i < length current) (k : 
   abbrev joined : List Corner
   joined = joined_at current i loop j
 
-  abbrev more : ℕ
-  more = length loop + 2
+  abbrev width : ℕ
+  width = length loop + 2
 
   corner_before : (m : ℕ) → m ≤ i → slice_index_or joined m nobody ≡ slice_index_or current m nobody
   corner_before m l =
@@ -104,7 +104,7 @@ module _ (current loop : List Corner) (i j : ℕ) (h : i < length current) (k : 
       ∙ (same_front (take i current) (q ∷ ((drop (j + 1) loop ++ take j loop) ++ q ∷ p ∷ drop (i + 1) current)) (drop (i + 1) current) p m (omega (arith, l, e))
       ∙ ap (λ (cs : List Corner). slice_index_or cs m nobody) (split_at current i nobody h))
 
-  front_length : length (take (i + 1) current ++ drop j loop ++ take j loop ++ slice_index_or loop j nobody ∷ []) ≡ i + more
+  front_length : length (take (i + 1) current ++ drop j loop ++ take j loop ++ slice_index_or loop j nobody ∷ []) ≡ i + width
   front_length =
       let q = slice_index_or loop j nobody in
       let a = take (i + 1) current in let b = drop j loop in let c = take j loop in
@@ -113,18 +113,18 @@ module _ (current loop : List Corner) (i j : ℕ) (h : i < length current) (k : 
       let r = length-append (a ++ b ++ c) (q ∷ []) in let s = length-append (a ++ b) c in let t = length-append a b in
       omega (arith, e, f, r, s, t)
 
-  corner_behind : (m : ℕ) → i + more ≤ m → slice_index_or joined m nobody ≡ slice_index_or current (m - more) nobody
+  corner_behind : (m : ℕ) → i + width ≤ m → slice_index_or joined m nobody ≡ slice_index_or current (m - width) nobody
   unfolding joined_at
   corner_behind m l =
       let p = slice_index_or current i nobody in let q = slice_index_or loop j nobody in
       let xs = take (i + 1) current ++ drop j loop ++ take j loop ++ q ∷ [] in let ys = p ∷ drop (i + 1) current in
-      let n : m - (i + more) ≡ (m - more) - i = omega (arith, l) in
+      let n : m - (i + width) ≡ (m - width) - i = omega (arith, l) in
       let e = length-take-le i current (omega (arith, h)) in
       ap (λ (cs : List Corner). slice_index_or cs m nobody) (append_assoc xs (p ∷ []) (drop (i + 1) current))
-      ∙ (get_or-append_right xs ys (i + more) m nobody front_length l
+      ∙ (get_or-append_right xs ys (i + width) m nobody front_length l
       ∙ (ap (λ (o : ℕ). slice_index_or ys o nobody) n
-      ∙ (sym (get_or-append_right (take i current) ys i (m - more) nobody e (omega (arith, l)))
-      ∙ ap (λ (cs : List Corner). slice_index_or cs (m - more) nobody) (split_at current i nobody h))))
+      ∙ (sym (get_or-append_right (take i current) ys i (m - width) nobody e (omega (arith, l)))
+      ∙ ap (λ (cs : List Corner). slice_index_or cs (m - width) nobody) (split_at current i nobody h))))
 
   -- ---- .. and their neighbours
   previous_is : (n m : ℕ) → 0 < m → previous n m ≡ m - 1
@@ -152,22 +152,22 @@ module _ (current loop : List Corner) (i j : ℕ) (h : i < length current) (k : 
       same_turn _ _ _ _ _ _
       (elim (cases_lt 0 m) [
         | inl f ↦ ap in_joined (previous_is (length joined) m f) ∙ (corner_before (m - 1) (omega (arith, l)) ∙ ap in_current (sym (previous_is (length current) m f)))
-        | inr f ↦ let z : m ≡ 0 = omega (arith, f) in let w : (length joined - 1) - more ≡ length current - 1 = omega (arith, n) in
+        | inr f ↦ let z : m ≡ 0 = omega (arith, f) in let w : (length joined - 1) - width ≡ length current - 1 = omega (arith, n) in
             ap in_joined (previous_first (length joined) m z) ∙ (corner_behind (length joined - 1) (omega (arith, n, h)) ∙ (ap in_current w ∙ ap in_current (sym (previous_first (length current) m z))))
       ])
       (corner_before m (omega (arith, l)))
       (ap in_joined (next_is (length joined) m (omega (arith, l, n, h))) ∙ (corner_before (m + 1) (omega (arith, l)) ∙ ap in_current (sym (next_is (length current) m (omega (arith, l, h))))))
 
-  turn_behind : (m : ℕ) → i + more < m → m < length joined → turn_at joined m ≡ turn_at current (m - more)
+  turn_behind : (m : ℕ) → i + width < m → m < length joined → turn_at joined m ≡ turn_at current (m - width)
   unfolding turn_at
   turn_behind m l o =
-      let n = joined_length current loop i j in let x = m - more in
+      let n = joined_length current loop i j in let x = m - width in
       same_turn _ _ _ _ _ _
-      (let w : (m - 1) - more ≡ x - 1 = omega (arith, l) in
+      (let w : (m - 1) - width ≡ x - 1 = omega (arith, l) in
       ap in_joined (previous_is (length joined) m (omega (arith, l))) ∙ (corner_behind (m - 1) (omega (arith, l)) ∙ (ap in_current w ∙ ap in_current (sym (previous_is (length current) x (omega (arith, l)))))))
       (corner_behind m (omega (arith, l)))
       (elim (cases_lt (m + 1) (length joined)) [
-        | inl f ↦ let w : (m + 1) - more ≡ x + 1 = omega (arith, l) in
+        | inl f ↦ let w : (m + 1) - width ≡ x + 1 = omega (arith, l) in
             ap in_joined (next_is (length joined) m f) ∙ (corner_behind (m + 1) (omega (arith, l)) ∙ (ap in_current w ∙ ap in_current (sym (next_is (length current) x (omega (arith, f, n, l))))))
         | inr f ↦ let y : m + 1 ≡ length joined = omega (arith, f, o) in let z : x + 1 ≡ length current = omega (arith, y, n, l) in
             ap in_joined (next_last (length joined) m y) ∙ (corner_before 0 (omega arith) ∙ ap in_current (sym (next_last (length current) x z)))

@@ -1,12 +1,12 @@
-use Rattle.std.proofs.Common.{◌∙◌, ◌+◌, ◌-◌, ap, sym, subst, List, length, Some, Vec, Global, All, arith}
+use Rattle.std.proofs.Common.{◌∙◌, ◌+◌, ◌-◌, ap, sym, subst, ℕ, List, length, Some, Vec, Global, All, arith}
 use Rattle.std.proofs.lemmas.List.{length-map}
 use Rattle.bim_model.specs.declared.geometry.Point.{Point}
 use Rattle.ear_cut.specs.declared.corners.Corner.{Corner}
 use Rattle.ear_cut.specs.Corners.{AreInGrid}
-use Rattle.void_bridge.specs.LoopEdges.{spot_of, all_edges}
+use Rattle.void_bridge.specs.LoopEdges.{segment, spot_of, all_edges}
 use Rattle.void_bridge.specs.Bridges.{bridge_by, joined_at, joined_in}
 use Rattle.void_bridge.specs.inner.Barriers.{segments_of}
-use Rattle.void_bridge.specs.inner.Tried.{AreTried}
+use Rattle.void_bridge.specs.inner.Tried.{AreTried, ArePassed, WereTried}
 use Rattle.void_bridge.proofs.LoopsInGrid.{IsSome, outer_in_grid, outer_some, holes_in_grid, holes_some}
 use Rattle.void_bridge.proofs.BridgedEdges.{items_without, to_come, no_more}
 use Rattle.void_bridge.proofs.HolesRead.{items_of}
@@ -81,18 +81,24 @@ loop-step-preserved c =
     let edges = segments_of c.loop-step.barriers in let hole = c.remove-hole.result.items in
     let w = read_bridge c.deref-in-loop-step.result.now current c.deref-in-loop-step-2.result.now holes b c.deref-in-loop-step.ensures.value c.deref-in-loop-step-2.ensures.value c.in-Some.ensures.within in
     let e = taken_hole holes current b c.remove-hole.result w c.remove-hole.ensures.value in
+    let passed =
+    subst (λ (cs : List Corner). ArePassed view edges cs (items_of holes) b.hole) c.deref-in-loop-step.ensures.value
+    (subst (λ (hs : List (Vec Corner Global)). ArePassed view edges c.deref-in-loop-step.result.now (items_of hs) b.hole) c.deref-in-loop-step-2.ensures.value c.in-Some.ensures.passed) in
+    let made =
+    c.in_ok-current-2.ensures
+    ∙ (ap (λ (cs : List Corner). joined_at cs b.from c.deref-in-loop-step-5.result.now b.to) c.deref-in-loop-step-4.ensures.value ∙ ap (λ (cs : List Corner). joined_at current b.from cs b.to) c.deref-in-loop-step-5.ensures.value) in
+    let left = ap (λ (hs : List (Vec Corner Global)). items_of hs) c.remove-hole.ensures.items ∙ items_without holes b.hole in
     record {
       framed = c.in_ok-add_bridge.ensures.framed;
       tried = tried_bridged view edges (segments_of c.add_bridge.new.barriers) current (items_of holes) b hole c.in_ok-current-2.current.items (items_of c.remove-hole.new.self.items) c.loop-step.tried.items c.in_ok-tried.tried.items
-          (segment p q) (segment q p) c.more w c.loop-step.invariant.tried
-          passed e made_is left_is more_is c.in_ok-add_bridge.ensures.edges c.in_ok-tried.ensures;
+          (segment (spot_of view c.index.result.now) (spot_of view c.index-in-loop-step.result.now)) (segment (spot_of view c.index-in-loop-step.result.now) (spot_of view c.index.result.now)) (c.len-more.result + 2) w c.loop-step.invariant.tried
+          passed e made left (ap (λ (n : ℕ). n + 2) c.len-more.ensures) c.in_ok-add_bridge.ensures.edges
+          (subst (λ (ns : List ℕ). WereTried ns b.from (c.len-more.result + 2) b.hole c.in_ok-tried.tried.items) c.deref-in-loop-step-6.ensures.value c.in_ok-tried.ensures);
       joining = joining_bridged view (joined_in view c.args.outer.now inner) (n - k) (n - (k + 1)) current (items_of holes) edges b hole c.in_ok-current-2.current.items (items_of c.remove-hole.new.self.items) (segments_of c.add_bridge.new.barriers)
           (spot_of view c.index.result.now) (spot_of view c.index-in-loop-step.result.now) c.loop-step.invariant.joining (to_come n k c.loop-step-test.true) w
           (read_first view edges c.deref-in-loop-step.result.now current c.deref-in-loop-step-2.result.now holes (Some b) c.deref-in-loop-step.ensures.value c.deref-in-loop-step-2.ensures.value c.in-Some.ensures.first)
           e
-          (c.in_ok-current-2.ensures
-          ∙ (ap (λ (cs : List Corner). joined_at cs b.from c.deref-in-loop-step-5.result.now b.to) c.deref-in-loop-step-4.ensures.value ∙ ap (λ (cs : List Corner). joined_at current b.from cs b.to) c.deref-in-loop-step-5.ensures.value))
-          (ap (λ (hs : List (Vec Corner Global)). items_of hs) c.remove-hole.ensures.items ∙ items_without holes b.hole)
+          made left
           (from_spot view current (items_of holes) b c.index.result.now w c.index.ensures)
           (to_spot view current (items_of holes) b hole c.index-in-loop-step.result.now w e c.index-in-loop-step.ensures)
           c.in_ok-add_bridge.ensures.edges;
