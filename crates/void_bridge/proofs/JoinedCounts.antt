@@ -16,7 +16,7 @@ use Rattle.void_bridge.proofs.Kept.{joined_keeps}
 use Rattle.void_bridge.proofs.PlacedCorners.{length-loops}
 
 -- ---- one bridge
-parts_length : (xs : List Corner) (n : ℕ) → length (take n xs) + length (drop n xs) ≡ length xs
+pub parts_length : (xs : List Corner) (n : ℕ) → length (take n xs) + length (drop n xs) ≡ length xs
 parts_length xs n = sym (length-append (take n xs) (drop n xs)) ∙ ap length (take-append-drop n xs)
 
 six_length : (a b c d e f : List Corner) → length (a ++ b ++ c ++ d ++ e ++ f) ≡ length a + length b + length c + length d + length e + length f
@@ -28,7 +28,7 @@ six_length a b c d e f =
     let t = length-append a b in
     omega (arith, p, q, r, s, t)
 
-joined_length : (current loop : List Corner) (i j : ℕ) → length (joined_at current i loop j) ≡ length current + (length loop + 2)
+pub joined_length : (current loop : List Corner) (i j : ℕ) → length (joined_at current i loop j) ≡ length current + (length loop + 2)
 unfolding joined_at
 joined_length current loop i j =
     let whole = six_length (take (i + 1) current) (drop j loop) (take j loop) (slice_index_or loop j nobody ∷ []) (slice_index_or current i nobody ∷ []) (drop (i + 1) current) in

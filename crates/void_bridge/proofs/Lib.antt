@@ -14,6 +14,7 @@ pub mod LoopsInGrid
 pub mod HolesRead
 pub mod BridgedEdges
 pub mod Passed
+pub mod TriedBridges
 pub mod BridgeLoop
 pub mod Rows
 pub mod Alternatives

@@ -6,10 +6,12 @@ ghost use Rattle.ear_cut.specs.Registers.{as_spot};
 ghost use Rattle.ear_cut.specs.inner.EarNotes.{IsFirst};
 ghost use Rattle.void_bridge.specs.Bridges.{is_left, leads_inside, is_free, first_found, bridge_from, bridge_by, IsBridge, IsBridgeIn};
 ghost use Rattle.void_bridge.specs.inner.Barriers.{segments_of, AreBarriers};
+ghost use Rattle.void_bridge.specs.inner.Tried.{IsTried, AreTried, ArePassed};
 
 use crate::barriers::{Barriers, Edge};
 use crate::blockers::{Hints, is_blocked};
 use crate::collisions::is_same_spot;
+use crate::tried::is_tried;
 use ear_cut::{Corner, Flat, Turn, View, area, seen, turn_at};
 
 /// A bridge from a corner of the current list to a corner of a loop that is left, by their indexes.
@@ -89,17 +91,22 @@ fn bridge_to(
     current: &[Corner],
     hole: &[Corner],
     k: usize,
+    tried: &[usize],
     barriers: &Barriers,
     hints: &mut Hints,
 ) -> Option<Bridge>
     requires current_in { AreInGrid current.now }
     requires hole_in { AreInGrid hole.now }
     requires kept { AreBarriers barriers.now }
+    requires tried { IsTried view (segments_of barriers.now) current.now hole.now k tried.now }
     ensures first { result ≡ first_found (bridge_from view (segments_of barriers.now) current.now hole.now k)
         0 (length current.now) }
     ensures within { IfSome result (λ b. IsBridge current.now hole.now k b) }
 {
     for i in 0..current.len() {
+        if is_tried(tried, i, k) {
+            continue;
+        }
         if let Some(j) = first_end(view, turn_at(current, i), hole, barriers, hints) {
             return Some(Bridge {
                 hole: k,
@@ -111,23 +118,27 @@ fn bridge_to(
     None
 }
 
-/// The first free bridge to a loop that is left.
+/// The first free bridge to a loop that is left. What is known not to be free isn't tried again.
 pub fn first_bridge(
     view: View,
     current: &[Corner],
     holes: &[Vec<Corner>],
+    tried: &[usize],
     barriers: &Barriers,
     hints: &mut Hints,
 ) -> Option<Bridge>
     requires current_in { AreInGrid current.now }
     requires holes_in { All AreInGrid (map (λ hole. hole.items) holes.now) }
     requires kept { AreBarriers barriers.now }
+    requires tried { AreTried view (segments_of barriers.now) current.now (map (λ hole. hole.items) holes.now) tried.now }
+    ensures passed { IfSome result (λ b. ArePassed view (segments_of barriers.now) current.now
+        (map (λ hole. hole.items) holes.now) b.hole) }
     ensures first { result
         ≡ bridge_by view (segments_of barriers.now) current.now (map (λ hole. hole.items) holes.now) }
     ensures within { IfSome result (IsBridgeIn current.now (map (λ hole. hole.items) holes.now)) }
 {
     for k in 0..holes.len() {
-        if let Some(bridge) = bridge_to(view, current, &holes[k], k, barriers, hints) {
+        if let Some(bridge) = bridge_to(view, current, &holes[k], k, tried, barriers, hints) {
             return Some(bridge);
         }
     }

@@ -11,6 +11,7 @@ use crate::barriers::{Barriers, Edge, add_edge, no_barriers};
 use crate::blockers::no_hints;
 use crate::bridges::first_bridge;
 use crate::hole_loops::{MOST_LOOP_CORNERS, holes_of};
+use crate::tried::counts_after;
 use bim_model::Point;
 use ear_cut::{Corner, View, corners_of, normal_of, seen, view_of};
 use std::alloc::{AllocError, Global};
@@ -139,13 +140,16 @@ fn joined_in(
     let mut holes = holes_of(alloc, view, outer.len(), inner)?;
     let mut barriers = barriers_of(alloc, view, &current, &holes)?;
     let mut hints = no_hints(alloc, barriers.edges.len())?;
+    let mut tried = Vec::new(alloc);
     for step in 0..inner.len() {
-        let Some(bridge) = first_bridge(view, &current, &holes, &barriers, &mut hints) else {
+        let Some(bridge) = first_bridge(view, &current, &holes, &tried, &barriers, &mut hints) else {
             return Ok(None);
         };
         let hole = holes.remove(bridge.hole);
         add_bridge(&mut barriers, view, current[bridge.from], hole[bridge.to])?;
         current = joined_at(alloc, &current, bridge.from, &hole, bridge.to)?;
+        let more = hole.len() + 2;
+        tried = counts_after(alloc, &tried, current.len(), bridge.from, more, bridge.hole)?;
     }
     Ok(Some(current))
 }

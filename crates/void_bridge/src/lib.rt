@@ -7,6 +7,7 @@ mod bridges;
 mod collisions;
 mod hole_loops;
 mod joining;
+mod tried;
 
 pub use hole_loops::MOST_LOOP_CORNERS;
 pub use joining::{BridgeError, join_loops};

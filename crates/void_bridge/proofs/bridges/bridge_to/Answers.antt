@@ -12,6 +12,11 @@ use Rattle.void_bridge.proofs.bridges.bridge_to.Goals as goal
 pub first_end-requires-clause-t_in : goal.first_end-requires-clause-t_in
 first_end-requires-clause-t_in c = subst InGrid (sym c.turn_at.ensures) (turn_in_grid c.args.current.now c.loop-i.i c.requires.current_in c.loop-i-test.true)
 
+pub loop-i-preserved-then-is_tried : goal.loop-i-preserved-then-is_tried
+loop-i-preserved-then-is_tried c =
+    below_more (λ m. bridge_from c.args.view (segments_of c.args.barriers.now) c.args.current.now c.args.hole.now c.args.k m ≡ None) c.loop-i.i c.loop-i.invariant
+    (c.requires.tried c.loop-i.i c.loop-i-test.true (rw c.if-is_tried.true at c.is_tried.ensures))
+
 pub returns-in-Some-clause-first : goal.returns-in-Some-clause-first
 returns-in-Some-clause-first c =
     let view = c.args.view in let edges = segments_of c.args.barriers.now in let current = c.args.current.now in let hole = c.args.hole.now in

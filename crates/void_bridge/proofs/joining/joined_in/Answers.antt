@@ -1,15 +1,17 @@
-use Rattle.std.proofs.Common.{◌∙◌, ◌+◌, ◌-◌, ap, sym, subst, List, length, Some, Vec, Global, All, arith}
+use Rattle.std.proofs.Common.{◌∙◌, ◌+◌, ◌-◌, ap, sym, subst, ℕ, List, length, Some, Vec, Global, All, arith}
 use Rattle.std.proofs.lemmas.List.{length-map}
 use Rattle.bim_model.specs.declared.geometry.Point.{Point}
 use Rattle.ear_cut.specs.declared.corners.Corner.{Corner}
 use Rattle.ear_cut.specs.Corners.{AreInGrid}
-use Rattle.void_bridge.specs.LoopEdges.{spot_of, all_edges}
+use Rattle.void_bridge.specs.LoopEdges.{segment, spot_of, all_edges}
 use Rattle.void_bridge.specs.Bridges.{bridge_by, joined_at, joined_in}
 use Rattle.void_bridge.specs.inner.Barriers.{segments_of}
+use Rattle.void_bridge.specs.inner.Tried.{AreTried, ArePassed, WereTried}
 use Rattle.void_bridge.proofs.LoopsInGrid.{IsSome, outer_in_grid, outer_some, holes_in_grid, holes_some}
 use Rattle.void_bridge.proofs.BridgedEdges.{items_without, to_come, no_more}
 use Rattle.void_bridge.proofs.HolesRead.{items_of}
 use Rattle.void_bridge.proofs.BridgeLoop.{joining_begun, joining_stuck, joining_ended, joining_bridged, read_bridge, read_first, taken_hole, from_in_grid, to_in_grid, from_spot, to_spot}
+use Rattle.void_bridge.proofs.TriedBridges.{nothing_tried, tried_bridged}
 use Rattle.void_bridge.proofs.joining.joined_in.Goals as goal
 
 -- ---- before the first bridge
@@ -34,6 +36,7 @@ loop-step-init c =
     let view = c.args.view in let current = c.in_ok-current.current.items in let holes = c.in_ok-holes.holes.items in
     record {
       framed = c.in_ok-barriers.ensures.framed;
+      tried = nothing_tried view (segments_of c.in_ok-barriers.barriers) current (items_of holes) c.new-tried.result.items c.new-tried.ensures.items;
       joining = joining_begun view c.args.outer.now (items_of c.args.inner.now) (length c.args.inner.now - 0) current (items_of holes) (segments_of c.in_ok-barriers.barriers)
           (omega (arith, length-map c.args.inner.now (λ (v : Vec Point Global). v.items))) c.in_ok-current.ensures c.in_ok-holes.ensures c.requires.outer_is.in_grid c.requires.inner_are
           (c.in_ok-barriers.ensures.edges
@@ -41,6 +44,13 @@ loop-step-init c =
     }
 
 -- ---- a bridge
+pub first_bridge-requires-clause-tried : goal.first_bridge-requires-clause-tried
+first_bridge-requires-clause-tried c =
+    let view = c.args.view in let edges = segments_of c.loop-step.barriers in let holes = c.loop-step.holes.items in
+    subst (λ (cs : List Corner). AreTried view edges cs (items_of c.deref-in-loop-step-2.result.now) c.deref-in-loop-step-3.result.now) (sym c.deref-in-loop-step.ensures.value)
+    (subst (λ (hs : List (Vec Corner Global)). AreTried view edges c.loop-step.current.items (items_of hs) c.deref-in-loop-step-3.result.now) (sym c.deref-in-loop-step-2.ensures.value)
+    (subst (λ (ns : List ℕ). AreTried view edges c.loop-step.current.items (items_of holes) ns) (sym c.deref-in-loop-step-3.ensures.value) c.loop-step.invariant.tried))
+
 pub returns-in_default : goal.returns-in_default
 returns-in_default c =
     let view = c.args.view in let inner = items_of c.args.inner.now in let n = length c.args.inner.now in let k = c.loop-step.step in
@@ -71,15 +81,24 @@ loop-step-preserved c =
     let edges = segments_of c.loop-step.barriers in let hole = c.remove-hole.result.items in
     let w = read_bridge c.deref-in-loop-step.result.now current c.deref-in-loop-step-2.result.now holes b c.deref-in-loop-step.ensures.value c.deref-in-loop-step-2.ensures.value c.in-Some.ensures.within in
     let e = taken_hole holes current b c.remove-hole.result w c.remove-hole.ensures.value in
+    let passed =
+    subst (λ (cs : List Corner). ArePassed view edges cs (items_of holes) b.hole) c.deref-in-loop-step.ensures.value
+    (subst (λ (hs : List (Vec Corner Global)). ArePassed view edges c.deref-in-loop-step.result.now (items_of hs) b.hole) c.deref-in-loop-step-2.ensures.value c.in-Some.ensures.passed) in
+    let made =
+    c.in_ok-current-2.ensures
+    ∙ (ap (λ (cs : List Corner). joined_at cs b.from c.deref-in-loop-step-5.result.now b.to) c.deref-in-loop-step-4.ensures.value ∙ ap (λ (cs : List Corner). joined_at current b.from cs b.to) c.deref-in-loop-step-5.ensures.value) in
+    let left = ap (λ (hs : List (Vec Corner Global)). items_of hs) c.remove-hole.ensures.items ∙ items_without holes b.hole in
     record {
       framed = c.in_ok-add_bridge.ensures.framed;
+      tried = tried_bridged view edges (segments_of c.add_bridge.new.barriers) current (items_of holes) b hole c.in_ok-current-2.current.items (items_of c.remove-hole.new.self.items) c.loop-step.tried.items c.in_ok-tried.tried.items
+          (segment (spot_of view c.index.result.now) (spot_of view c.index-in-loop-step.result.now)) (segment (spot_of view c.index-in-loop-step.result.now) (spot_of view c.index.result.now)) (c.len-more.result + 2) w c.loop-step.invariant.tried
+          passed e made left (ap (λ (n : ℕ). n + 2) c.len-more.ensures) c.in_ok-add_bridge.ensures.edges
+          (subst (λ (ns : List ℕ). WereTried ns b.from (c.len-more.result + 2) b.hole c.in_ok-tried.tried.items) c.deref-in-loop-step-6.ensures.value c.in_ok-tried.ensures);
       joining = joining_bridged view (joined_in view c.args.outer.now inner) (n - k) (n - (k + 1)) current (items_of holes) edges b hole c.in_ok-current-2.current.items (items_of c.remove-hole.new.self.items) (segments_of c.add_bridge.new.barriers)
           (spot_of view c.index.result.now) (spot_of view c.index-in-loop-step.result.now) c.loop-step.invariant.joining (to_come n k c.loop-step-test.true) w
           (read_first view edges c.deref-in-loop-step.result.now current c.deref-in-loop-step-2.result.now holes (Some b) c.deref-in-loop-step.ensures.value c.deref-in-loop-step-2.ensures.value c.in-Some.ensures.first)
           e
-          (c.in_ok-current-2.ensures
-          ∙ (ap (λ (cs : List Corner). joined_at cs b.from c.deref-in-loop-step-4.result.now b.to) c.deref-in-loop-step-3.ensures.value ∙ ap (λ (cs : List Corner). joined_at current b.from cs b.to) c.deref-in-loop-step-4.ensures.value))
-          (ap (λ (hs : List (Vec Corner Global)). items_of hs) c.remove-hole.ensures.items ∙ items_without holes b.hole)
+          made left
           (from_spot view current (items_of holes) b c.index.result.now w c.index.ensures)
           (to_spot view current (items_of holes) b hole c.index-in-loop-step.result.now w e c.index-in-loop-step.ensures)
           c.in_ok-add_bridge.ensures.edges;
