@@ -7,7 +7,7 @@ ghost use Rattle.bim_sockets.specs.Sockets.{new_source, new_sink, source_seen, s
 use crate::socket_ends::{TcpSink, TcpSource};
 use bim_io::Failed;
 use bim_net::{Door, EndKind, Link, LinkEnd};
-use ghost_bytes::GhostList;
+use ghost_lists::GhostList;
 use std::io::Result as IoResult;
 use std::marker::Model;
 use std::net::{TcpListener, TcpStream};

@@ -2,7 +2,7 @@
 ghost use Rattle.std.specs.Prelude.{◌≡◌, ◌++◌, [], take, MatchResult};
 ghost use Rattle.std.specs.Io.{ReadsAtMost, WritesAtMost};
 
-use ghost_bytes::GhostBytes;
+use ghost_lists::GhostBytes;
 use std::io::{Read, Result as IoResult, Write};
 use std::marker::Model;
 use std::net::{Shutdown, TcpStream};

@@ -28,12 +28,12 @@ use denote.Triple.Entry.{on_entry}
 use denote.Triple.Spec.{Meets, triple_of}
 use denote.Triple.Table.{entered}
 use denote.Triple.Walked.{says, Stays, stay_ref, stay_none_slice, walk_of, AllGo, Goes-ref, Goes-none_slice, Walks, ends_at, walked, walk_Meets}
-use Rattle.ghost_bytes.specs.declared.bytes.GhostBytes.{GhostBytes}
-use Rattle.ghost_bytes.specs.contracts.bytes.GhostBytes as T
-use Rattle.ghost_bytes.specs.contracts.bytes.GhostBytes.add.Key.{name as #it}
-use Rattle.ghost_bytes.specs.contracts.bytes.GhostBytes.add as it
-use Rattle.ghost_bytes.proofs.bytes.GhostBytes.add.Statement as stated
-use Rattle.ghost_bytes.proofs.bytes.GhostBytes.add.Code as code
+use Rattle.ghost_lists.specs.declared.ghost_bytes.GhostBytes.{GhostBytes}
+use Rattle.ghost_lists.specs.contracts.ghost_bytes.GhostBytes as T
+use Rattle.ghost_lists.specs.contracts.ghost_bytes.GhostBytes.add.Key.{name as #it}
+use Rattle.ghost_lists.specs.contracts.ghost_bytes.GhostBytes.add as it
+use Rattle.ghost_lists.proofs.ghost_bytes.GhostBytes.add.Statement as stated
+use Rattle.ghost_lists.proofs.ghost_bytes.GhostBytes.add.Code as code
 
 abbrev Arg : Type 0
 Arg = MutBor GhostBytes × (Bor (List ℕ) × Unit {0})

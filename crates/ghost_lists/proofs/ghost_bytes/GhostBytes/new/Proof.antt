@@ -21,12 +21,12 @@ use denote.Triple.Entry.{on_entry}
 use denote.Triple.Spec.{Meets, triple_of}
 use denote.Triple.Table.{entered}
 use denote.Triple.Walked.{says, ends_at, walked, walk_Meets}
-use Rattle.ghost_bytes.specs.declared.bytes.GhostBytes.{GhostBytes}
-use Rattle.ghost_bytes.specs.contracts.bytes.GhostBytes as T
-use Rattle.ghost_bytes.specs.contracts.bytes.GhostBytes.new.Key.{name as #it}
-use Rattle.ghost_bytes.specs.contracts.bytes.GhostBytes.new as it
-use Rattle.ghost_bytes.proofs.bytes.GhostBytes.new.Statement as stated
-use Rattle.ghost_bytes.proofs.bytes.GhostBytes.new.Code as code
+use Rattle.ghost_lists.specs.declared.ghost_bytes.GhostBytes.{GhostBytes}
+use Rattle.ghost_lists.specs.contracts.ghost_bytes.GhostBytes as T
+use Rattle.ghost_lists.specs.contracts.ghost_bytes.GhostBytes.new.Key.{name as #it}
+use Rattle.ghost_lists.specs.contracts.ghost_bytes.GhostBytes.new as it
+use Rattle.ghost_lists.proofs.ghost_bytes.GhostBytes.new.Statement as stated
+use Rattle.ghost_lists.proofs.ghost_bytes.GhostBytes.new.Code as code
 
 abbrev v : Val
 v = vstruct (vcons (vstruct vnil) vnil)
