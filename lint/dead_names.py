@@ -48,6 +48,7 @@ NOT_NAMES = {
     "infixr",
 }
 CITED_BY_CHECK = re.compile(r"(^|[\s(])goal\.|^(invariant|decreases)-")
+BY_HAND = re.compile(r"/(Proof\.antt \S+_spec|TheSendSync/Send\.antt send)$")
 PATH = re.compile(r"(?:crate|\w+)::((?:specs|proofs)::[\w:'+-]+)")
 
 
@@ -126,9 +127,11 @@ class Text:
         return found
 
     def is_cited_by_check(self, rest: str, word: str, indent: int) -> bool:
-        """Whether the check itself cites the name: an answer to a goal, or a field of one."""
+        """Whether the check itself cites the name: an answer to a goal, or a field of one, or what a
+        proof by hand proves."""
         is_goal = CITED_BY_CHECK.search(rest) or CITED_BY_CHECK.search(word)
-        return is_goal is not None or (indent > 0 and self.is_answer)
+        by_hand = BY_HAND.search(f"{self.path} {word}")
+        return is_goal is not None or by_hand is not None or (indent > 0 and self.is_answer)
 
     def is_worked_row(self, at: int, word: str) -> bool:
         """Whether it is an example without variables that computes to what its type says."""

@@ -58,3 +58,15 @@ pub record ListClockState : Type 0 where
 pub record StreamState : Type 0 where
   pub ended : Bool
   pub faults : ℕ
+
+-- of a source over a reader of the system: the bytes that its reads gave, whether it has answered its end, and how often it
+-- has failed
+pub record ReaderState : Type 0 where
+  pub given : List ℕ
+  pub ended : Bool
+  pub faults : ℕ
+
+-- of a sink over a writer of the system: the bytes that its writes took, and how often it has failed
+pub record WriterState : Type 0 where
+  pub taken : List ℕ
+  pub faults : ℕ

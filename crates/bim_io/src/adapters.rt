@@ -1,37 +1,40 @@
 //! The real streams and the real clock.
-ghost use Rattle.std.specs.Prelude.{◌≡◌, ◌/◌, false, None, min, IfOk, OnErr};
+ghost use Rattle.std.specs.Prelude.{◌≡◌, ◌/◌, [], false, None, Some, min, IfOk, OnErr};
 ghost use Rattle.std.specs.Time.{system_time_nanos};
 
 use crate::traits::{Clock, Failed, Sink, Source};
 use bim_model::Moment;
+use ghost_lists::GhostBytes;
 use std::io::{Read, Result as IoResult, Write};
 use std::marker::Model;
 use std::rt;
 use std::time::SystemTime;
 
-/// A source over a reader of the system, which tells no contents.
+/// A source over a reader of the system, which tells what its reads gave, and not what is left.
 #[derive(Drop)]
 pub struct StdSource<R: Read + Drop> {
     inner: R,
+    given: GhostBytes,
     ended: bool,
     faults: u64,
 }
 
 impl<R: Read + Drop> Model for StdSource<R> {
-    ghost use Rattle.bim_io.specs.MemoryStreams.{StreamState};
+    ghost use Rattle.bim_io.specs.MemoryStreams.{ReaderState};
 
-    ghost Value = { StreamState };
+    ghost Value = { ReaderState };
 
-    ghost view = { λ s. record { ended = s.ended; faults = s.faults } };
+    ghost view = { λ s. record { given = s.given.bytes; ended = s.ended; faults = s.faults } };
 }
 
 impl<R: Read + Drop> StdSource<R> {
     /// A source over the reader that has not failed yet, nor answered the end.
     pub fn new(inner: R) -> Self
-        ensures { result ≡ record { ended = false; faults = 0 } }
+        ensures { result ≡ record { given = []; ended = false; faults = 0 } }
     {
         StdSource {
             inner,
+            given: GhostBytes::new(),
             ended: false,
             faults: 0,
         }
@@ -41,7 +44,7 @@ impl<R: Read + Drop> StdSource<R> {
 impl<R: Read + Drop> Source for StdSource<R> {
     ghost seen = { λ s. record {
       left = None;
-      given = None;
+      given = Some s.given;
       most = None;
       ended = s.ended;
       faults = s.faults;
@@ -52,6 +55,7 @@ impl<R: Read + Drop> Source for StdSource<R> {
     fn read(&mut self, room: &mut [u8]) -> Result<usize, Failed> {
         match self.inner.read(room) {
             Ok(count) => {
+                self.given.add(&room[..count]);
                 if count == 0 && room.len() > 0 {
                     self.ended = true;
                 }
@@ -65,36 +69,42 @@ impl<R: Read + Drop> Source for StdSource<R> {
     }
 }
 
-/// A sink over a writer of the system, which tells no contents.
+/// A sink over a writer of the system, which tells what its writes took.
 #[derive(Drop)]
 pub struct StdSink<W: Write + Drop> {
     inner: W,
+    taken: GhostBytes,
     faults: u64,
 }
 
 impl<W: Write + Drop> Model for StdSink<W> {
-    ghost use Rattle.std.specs.Prelude.{ℕ};
+    ghost use Rattle.bim_io.specs.MemoryStreams.{WriterState};
 
-    ghost Value = { ℕ };
+    ghost Value = { WriterState };
 
-    ghost view = { λ s. s.faults };
+    ghost view = { λ s. record { taken = s.taken.bytes; faults = s.faults } };
 }
 
 impl<W: Write + Drop> StdSink<W> {
     /// A sink over the writer that has not failed yet.
     pub fn new(inner: W) -> Self
-        ensures { result ≡ 0 }
+        ensures { result ≡ record { taken = []; faults = 0 } }
     {
-        StdSink { inner, faults: 0 }
+        StdSink {
+            inner,
+            taken: GhostBytes::new(),
+            faults: 0,
+        }
     }
 }
 
 impl<W: Write + Drop> Sink for StdSink<W> {
-    ghost seen = { λ faults. record { held = None; faults = faults } };
+    ghost seen = { λ s. record { held = Some s.taken; faults = s.faults } };
 
     fn write(&mut self, piece: &[u8]) -> Result<usize, Failed> {
         match self.inner.write(piece) {
             Ok(count) => {
+                self.taken.add(&piece[..count]);
                 if count == 0 && piece.len() > 0 {
                     self.faults = self.faults.saturating_add(1);
                     return Err(Failed);

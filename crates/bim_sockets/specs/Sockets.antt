@@ -1,26 +1,55 @@
--- What contracts see of doors and hosts over sockets.
-use Rattle.std.specs.Prelude.{ℕ, List, Bool, false, Option, None, map}
+-- What contracts see of connections, doors and hosts over sockets.
+use Rattle.std.specs.Prelude.{ℕ, List, [], Bool, true, false, Option, None, Some, map}
+use Rattle.bim_io.specs.StreamViews.{SourceSeen, SinkSeen}
 use Rattle.bim_net.specs.declared.hosts.Opening.{Opening}
-use Rattle.bim_net.specs.ConnectionViews.{DoorSeen}
+use Rattle.bim_net.specs.ConnectionViews.{EndedLink, DoorSeen}
 use Rattle.bim_net.specs.Hosts.{HostSeen}
 
--- of a door: which one it is, how many connections it has given, whether it has answered that it is closed, and how
--- often it has failed
+-- of what comes from a socket: the bytes that its reads gave, whether its end was answered, and how often it has failed
+pub record TcpSourceState : Type 0 where
+  pub given : List ℕ
+  pub ended : Bool
+  pub faults : ℕ
+
+-- of what goes to a socket: the bytes that its writes took, and how often it has failed
+pub record TcpSinkState : Type 0 where
+  pub taken : List ℕ
+  pub faults : ℕ
+
+-- a socket from which nothing was read
+abbrev pub new_source : TcpSourceState
+new_source = record { given = []; ended = false; faults = 0 }
+
+-- a socket to which nothing was written
+abbrev pub new_sink : TcpSinkState
+new_sink = record { taken = []; faults = 0 }
+
+-- what the one shows: the bytes that it gave, and not those that are left
+abbrev pub source_seen : TcpSourceState → SourceSeen
+source_seen s = record { left = None; given = Some s.given; most = None; ended = s.ended; faults = s.faults }
+
+-- what the other shows: the bytes that it took
+abbrev pub sink_seen : TcpSinkState → SinkSeen
+sink_seen s = record { held = Some s.taken; faults = s.faults }
+
+-- of a door: which one it is, the connections that were given back, oldest first, how many it has given, whether it has
+-- answered that it is closed, and how often it has failed
 pub record TcpDoorState : Type 0 where
   pub number : ℕ
+  pub ended : List EndedLink
   pub gave : ℕ
   pub closed : Bool
   pub faults : ℕ
 
 -- a door of this number, which has given none
 abbrev pub new_door : ℕ → TcpDoorState
-new_door number = record { number = number; gave = 0; closed = false; faults = 0 }
+new_door number = record { number = number; ended = []; gave = 0; closed = false; faults = 0 }
 
--- what it shows: it tells no connections that were given back
+-- what it shows
 abbrev pub door_seen : TcpDoorState → DoorSeen
 door_seen d = record {
   number = d.number;
-  ended = None;
+  ended = Some d.ended;
   gave = d.gave;
   closed = d.closed;
   faults = d.faults;
@@ -35,10 +64,10 @@ pub record NetHostState : Type 0 where
   pub doors : List TcpDoorState
   pub faults : ℕ
 
--- what it shows: its clocks have no one moment
+-- what it shows: its doors tell what was given back, and its clocks have no one moment
 abbrev pub host_seen : NetHostState → HostSeen
 host_seen h = record {
-  tells = false;
+  tells = true;
   openings = h.openings;
   opened = h.opened;
   closings = h.closings;

@@ -1,14 +1,16 @@
-//! Connections and doors over sockets, which tell no bytes and no connections that were given back.
-ghost use Rattle.std.specs.Prelude.{◌≡◌, false, None, IfOk, IfSome, nat_lt};
+//! Connections and doors over sockets. A door tells the connections that were given back.
+ghost use Rattle.std.specs.Prelude.{◌≡◌, IfOk, IfSome, nat_lt};
 ghost use Rattle.bim_net.specs.ConnectionViews.{ended_link, link_seen};
 ghost use Rattle.bim_net.specs.Doors.{TakesBack};
-ghost use Rattle.bim_sockets.specs.Sockets.{new_door, door_seen};
+ghost use Rattle.bim_sockets.specs.Sockets.{new_source, new_sink, source_seen, sink_seen, new_door, door_seen};
 
-use bim_io::{Failed, Sink, Source, StdSink};
+use crate::socket_ends::{TcpSink, TcpSource};
+use bim_io::Failed;
 use bim_net::{Door, EndKind, Link, LinkEnd};
-use std::io::{Read, Result as IoResult};
+use ghost_lists::GhostList;
+use std::io::Result as IoResult;
 use std::marker::Model;
-use std::net::{Shutdown, TcpListener, TcpStream};
+use std::net::{TcpListener, TcpStream};
 use std::thread::yield_now;
 use std::time::Duration;
 
@@ -17,59 +19,6 @@ pub const SILENCE: u64 = 60;
 
 /// How many connections may fail one after another before they are set up, until the door fails.
 const MOST_BROKEN: u32 = 1000;
-
-/// How long a peer that is parted from may be silent before it is let go, in seconds.
-const PARTING: u64 = 1;
-
-/// How often it is read from at most. So many reads take in the longest upload.
-const MOST_PARTING: u32 = 2_100;
-
-/// What comes from a socket.
-#[derive(Drop)]
-pub struct TcpSource {
-    stream: TcpStream,
-    ended: bool,
-    faults: u64,
-}
-
-impl Model for TcpSource {
-    ghost use Rattle.bim_io.specs.MemoryStreams.{StreamState};
-
-    ghost Value = { StreamState };
-
-    ghost view = { λ s. record { ended = s.ended; faults = s.faults } };
-}
-
-impl TcpSource {
-    fn new(stream: TcpStream) -> TcpSource
-        ensures { result ≡ record { ended = false; faults = 0 } }
-    {
-        TcpSource {
-            stream,
-            ended: false,
-            faults: 0,
-        }
-    }
-
-    // Says that nothing more is written, and reads on for a while: a socket that is closed while bytes of the peer are
-    // unread is reset, and the peer might never read the last response (RFC 9112, section 9.6).
-    fn part(&mut self) {
-        let silence = Some(Duration::from_secs(PARTING));
-        if self.stream.shutdown(Shutdown::Write).is_err()
-            || self.stream.set_read_timeout(silence).is_err()
-        {
-            return;
-        }
-        let mut room = [0u8; 16_384];
-        for _ in 0..MOST_PARTING {
-            match self.stream.read(&mut room) {
-                Ok(0) => return,
-                Ok(_) => {}
-                Err(_) => return,
-            }
-        }
-    }
-}
 
 // Whether the peer may have sent more than was read before its session ended.
 fn is_parted(kind: EndKind) -> bool {
@@ -83,63 +32,30 @@ fn is_parted(kind: EndKind) -> bool {
     }
 }
 
-impl Source for TcpSource {
-    ghost seen = { λ s. record {
-      left = None;
-      given = None;
-      most = None;
-      ended = s.ended;
-      faults = s.faults;
-    } };
-
-    ghost at_end = { λ s ended. tt };
-
-    fn read(&mut self, room: &mut [u8]) -> Result<usize, Failed> {
-        match self.stream.read(room) {
-            Ok(count) => {
-                if count == 0 && room.len() > 0 {
-                    self.ended = true;
-                }
-                Ok(count)
-            }
-            Err(_) => {
-                self.faults = self.faults.saturating_add(1);
-                Err(Failed)
-            }
-        }
-    }
-}
-
-/// What goes to a socket.
-#[derive(Drop)]
-pub struct TcpSink {
-    inner: StdSink<TcpStream>,
-}
-
-impl Model for TcpSink {
-    ghost use Rattle.std.specs.Prelude.{ℕ};
-
-    ghost Value = { ℕ };
-
-    ghost view = { λ s. s.inner };
-}
-
-impl Sink for TcpSink {
-    ghost seen = { λ faults. record { held = None; faults = faults } };
-
-    fn write(&mut self, piece: &[u8]) -> Result<usize, Failed> {
-        self.inner.write(piece)
-    }
-}
-
 /// A connection over a socket. Its two ends are two handles of the one socket.
 pub type TcpLink = Link<TcpSource, TcpSink>;
+
+// A connection that was given back, with the end of its session.
+#[derive(Drop)]
+struct Parted {
+    link: TcpLink,
+    end: LinkEnd,
+}
+
+impl Model for Parted {
+    ghost use Rattle.bim_net.specs.ConnectionViews.{EndedLink, link_seen, ended_link};
+    ghost use Rattle.bim_sockets.specs.Sockets.{source_seen, sink_seen};
+
+    ghost Value = { EndedLink };
+
+    ghost view = { λ p. ended_link (link_seen (source_seen p.link.source) (sink_seen p.link.sink)) p.end };
+}
 
 // A connection over this socket: small writes go out at once, and a read from a silent peer, and a write to one that takes
 // nothing, fail in the end.
 fn link_of(stream: TcpStream) -> IoResult<TcpLink>
-    ensures source { IfOk result (λ l. l.source ≡ record { ended = false; faults = 0 }) }
-    ensures sink { IfOk result (λ l. l.sink ≡ 0) }
+    ensures source { IfOk result (λ l. l.source ≡ new_source) }
+    ensures sink { IfOk result (λ l. l.sink ≡ new_sink) }
 {
     stream.set_nodelay(true)?;
     stream.set_read_timeout(Some(Duration::from_secs(SILENCE)))?;
@@ -147,16 +63,14 @@ fn link_of(stream: TcpStream) -> IoResult<TcpLink>
     let other = stream.try_clone()?;
     Ok(Link {
         source: TcpSource::new(stream),
-        sink: TcpSink {
-            inner: StdSink::new(other),
-        },
+        sink: TcpSink::new(other),
     })
 }
 
 // The next connection. A peer that is gone again before its connection is set up is passed over.
 fn next_of(listener: &TcpListener) -> Option<TcpLink>
-    ensures source { IfSome result (λ l. l.source ≡ record { ended = false; faults = 0 }) }
-    ensures sink { IfSome result (λ l. l.sink ≡ 0) }
+    ensures source { IfSome result (λ l. l.source ≡ new_source) }
+    ensures sink { IfSome result (λ l. l.sink ≡ new_sink) }
 {
     for _ in 0..MOST_BROKEN {
         if let Ok((stream, _)) = listener.accept() {
@@ -175,6 +89,7 @@ fn next_of(listener: &TcpListener) -> Option<TcpLink>
 pub struct TcpDoor {
     listener: Option<TcpListener>,
     number: u32,
+    ended: GhostList<Parted>,
     gave: u64,
     closed: bool,
     faults: u64,
@@ -185,7 +100,13 @@ impl Model for TcpDoor {
 
     ghost Value = { TcpDoorState };
 
-    ghost view = { λ d. record { number = d.number; gave = d.gave; closed = d.closed; faults = d.faults } };
+    ghost view = { λ d. record {
+      number = d.number;
+      ended = d.ended.items;
+      gave = d.gave;
+      closed = d.closed;
+      faults = d.faults;
+    } };
 }
 
 impl TcpDoor {
@@ -196,6 +117,7 @@ impl TcpDoor {
         TcpDoor {
             listener: Some(listener),
             number,
+            ended: GhostList::new(),
             gave: 0,
             closed: false,
             faults: 0,
@@ -246,14 +168,13 @@ impl Door for TcpDoor {
 
     fn give_back(&mut self, link: TcpLink, end: LinkEnd)
         ensures door { TakesBack
-            (ended_link (link_seen
-            (record { left = None; given = None; most = None; ended = link.source.ended; faults = link.source.faults })
-            (record { held = None; faults = link.sink })) end)
+            (ended_link (link_seen (source_seen link.source) (sink_seen link.sink)) end)
             (door_seen self.old) (door_seen self.new) }
     {
-        let mut link = link;
+        let mut parted = Parted { link, end };
+        self.ended = self.ended.and(&parted);
         if is_parted(end.kind) {
-            link.source.part();
+            parted.link.source.part();
         }
     }
 }

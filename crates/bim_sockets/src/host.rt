@@ -1,5 +1,5 @@
 //! A host over sockets.
-ghost use Rattle.std.specs.Prelude.{◌≡◌, [], false, None, Some, IfOk, IfSome, OnErr, vec_len, map};
+ghost use Rattle.std.specs.Prelude.{◌≡◌, [], true, None, Some, IfOk, IfSome, OnErr, vec_len, map};
 ghost use Rattle.bim_net.specs.Hosts.{AreNew, Closes, some_failed};
 ghost use Rattle.bim_sockets.specs.Sockets.{door_seen, host_seen};
 
@@ -43,7 +43,7 @@ impl<R: Net<Listener = TcpListener, Stream = TcpStream> + Clock + Copy + Drop> M
 // Doors over the listening socket, numbered from 0; the error says whether a handle of it was refused.
 fn doors_of(alloc: Global, listener: TcpListener, n: u32) -> Result<Vec<TcpDoor>, HostFault>
     ensures count { IfOk result (λ doors. vec_len doors ≡ n) }
-    ensures new { IfOk result (λ doors. AreNew false 0 (map door_seen doors.items)) }
+    ensures new { IfOk result (λ doors. AreNew true 0 (map door_seen doors.items)) }
 {
     let mut doors = Vec::new(alloc);
     for number in 0..n {

@@ -4,7 +4,10 @@
 mod doors;
 mod gate;
 mod host;
+mod socket_ends;
+mod told_socket;
 
-pub use doors::{SILENCE, TcpDoor, TcpLink, TcpSink, TcpSource};
+pub use doors::{SILENCE, TcpDoor, TcpLink};
 pub use gate::IdleGate;
 pub use host::NetHost;
+pub use socket_ends::{TcpSink, TcpSource};

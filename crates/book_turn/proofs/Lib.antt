@@ -3,3 +3,4 @@ pub mod Prefixes
 pub mod Keeps
 pub mod Calls
 pub mod Ends
+pub mod Fronts

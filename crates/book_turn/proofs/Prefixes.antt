@@ -1,5 +1,5 @@
 -- Histories whose turns rise, and their beginnings.
-use Rattle.std.proofs.Common.{◌≡◌, ℕ, ◌+◌, ◌<◌, ◌≤◌, ◌⊎◌, inl, inr, ⊎_elim, List, [], ◌∷◌, ◌++◌, sym, refl, ap, ◌∙◌, subst, arith, le-leb, ltb, ltb-true, ltb-false, max, Bool, true, false, if◌then◌else◌}
+use Rattle.std.proofs.Common.{◌≡◌, ℕ, ◌+◌, ◌<◌, ◌≤◌, ◌⊎◌, inl, inr, ⊎_elim, List, [], ◌∷◌, ◌++◌, sym, refl, ap, ◌∙◌, subst, arith, le-leb, leb, ltb, ltb-true, ltb-false, max, Bool, true, false, if◌then◌else◌}
 use mathlib.Core.Logic.{dite}
 use native.Mathlib.Decide.{dec_le}
 use borrow.Author.Tests.{lt-leb}
@@ -58,6 +58,14 @@ module _ {E : Type 0} (turn : E → ℕ) where
       (λ le. let k = up_to_splits t es r.1 in (k.0, ap (λ l. e ∷ l) k.1 ∙ ap (λ l. l ++ k.0) (sym (taken t e es le)), k.2))
       (λ not. let lt : t < turn e = omega arith in let b = after_earlier t (turn e) es (omega arith) r.0 in (e ∷ es, ap (λ l. l ++ e ∷ es) (sym (left_out t e es lt ∙ up_to_none t es b)), (lt, b)))
 
+  -- of a beginning an earlier one
+  pub up_to_front : (s t : ℕ) (h : List E) → s ≤ t → up_to turn s (up_to turn t h) ≡ up_to turn s h
+  up_to_front s t [] le = refl
+  up_to_front s t (e ∷ es) le = dite (dec_le (turn e) t)
+      (λ in_. ap (up_to turn s) (taken t e es in_) ∙ ap (λ l. if leb (turn e) s then e ∷ l else l) (up_to_front s t es le))
+      (λ not. let out : t < turn e = omega arith in let far : s < turn e = omega (arith, le, out) in
+      ap (up_to turn s) (left_out t e es out) ∙ up_to_front s t es le ∙ sym (left_out s e es far))
+
   -- of two beginnings the one with the later turn
   pub picked : (h : List E) (a b : ℕ) (xs ys : List E) → xs ≡ up_to turn a h → ys ≡ up_to turn b h → (if ltb a b then ys else xs) ≡ up_to turn (max a b) h
   picked h a b xs ys e f = go (ltb a b) refl
@@ -102,6 +110,12 @@ module _ {E : Type 0} (turn pass : E → ℕ) where
   pub own_fewer : (ps qs : List ℕ) (t : ℕ) (h : List E) → ((x : ℕ) → has x qs ≡ true → has x ps ≡ true) → OwnUpTo turn pass ps t h → OwnUpTo turn pass qs t h
   own_fewer ps qs t [] sub a = tt
   own_fewer ps qs t (e ∷ es) sub a = ((λ is. a.0 (sub (pass e) is)), own_fewer ps qs t es sub a.1)
+
+  pub own_up_to : (ps : List ℕ) (s t : ℕ) (h : List E) → OwnUpTo turn pass ps s h → OwnUpTo turn pass ps s (up_to turn t h)
+  own_up_to ps s t [] a = tt
+  own_up_to ps s t (e ∷ es) a = dite (dec_le (turn e) t)
+      (λ le. subst (OwnUpTo turn pass ps s) (sym (taken turn t e es le)) (a.0, own_up_to ps s t es a.1))
+      (λ not. let lt : t < turn e = omega arith in subst (OwnUpTo turn pass ps s) (sym (left_out turn t e es lt)) (own_up_to ps s t es a.1))
 
   pub own_none : (ps : List ℕ) (t : ℕ) (m : List E) → OwnUpTo turn pass ps t m → AllAfter turn t m → calls_by pass ps m ≡ []
   own_none ps t [] a b = refl

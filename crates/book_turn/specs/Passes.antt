@@ -7,7 +7,7 @@ use Rattle.book_turn.specs.declared.rule.Stage.TheVariants.{Free}
 use Rattle.book_turn.specs.declared.object.Stamp.{Stamp}
 use Rattle.book_turn.specs.declared.limits.TheConstants.{MOST_TURNS}
 use Rattle.book_turn.specs.NumberLists.{has, times, greatest}
-use Rattle.book_turn.specs.Entries.{listed, AllBefore, AllAfter, Rises, up_to, calls_by}
+use Rattle.book_turn.specs.Entries.{listed, AllBefore, AllAfter, Rises, up_to, calls_by, OwnUpTo}
 
 -- which turn it is
 abbrev pub TurnId : Type 0
@@ -99,6 +99,17 @@ module _ {E S : Type 0} where
       pub news : List E
       pub takes : Takes turn news v w
       pub seen : w.seen ≡ v.seen ++ news
+
+    -- the pass has seen the entries of a history up to its last turn, and made none of a later turn
+    pub record HasSeen (history : List E) (v : PassState E S) : Type 0 where
+      pub seen : v.seen ≡ up_to (λ e. (stamp_of e).turn) v.last history
+      pub own : OwnUpTo (λ e. (stamp_of e).turn) (λ e. (stamp_of e).pass) v.numbers v.last history
+
+    -- what the one has seen is what the other has seen up to the last turn of the one, with all its own entries
+    pub record IsFrontOf (v w : PassState E S) : Type 0 where
+      pub seen : v.seen ≡ up_to (λ e. (stamp_of e).turn) v.last w.seen
+      pub own : calls_by (λ e. (stamp_of e).pass) v.numbers w.seen
+          ≡ calls_by (λ e. (stamp_of e).pass) v.numbers v.seen
 
     -- a pass takes in another. What both have seen are the beginnings of one list, up to the last turn of each, in which each has all its own calls; and no turn was taken twice
     pub record Joined (v other w : PassState E S) : Type 0 where

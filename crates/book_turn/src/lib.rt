@@ -9,6 +9,7 @@
 #![tactic(auto)]
 
 pub mod call_fault;
+pub mod laws;
 pub mod limits;
 pub mod object;
 pub mod pass;

@@ -12,7 +12,9 @@ use Rattle.book_history.proofs.Histories.{AreOf, AreAbove, added_of, above_of, a
 use Rattle.bim_session.specs.Works.{Standing, IsTaken, Gives, WorksOne, WorksOn, left_behind, last_turn}
 use Rattle.bim_session.proofs.Sessions.{gives_grown, on_grown, last_turn-append, entry_new}
 use Rattle.server_commands.specs.inner.Turns.{ServerState, with_turn, stamp_of, left_of}
-use Rattle.server_commands.specs.inner.BucketWork.{GivesOut, WorksBucket, WorksTimes, WorksPart}
+use Rattle.server_commands.specs.inner.BucketWork.{GivesOut, WorksBucket, WorksTimes, WorksPart, WorksUpTo}
+use mathlib.Core.Logic.{dite}
+use native.Mathlib.Decide.{dec_le}
 
 -- the step of a call at the next turn
 abbrev pub step_of : ServerState → BookCall → Step
@@ -277,3 +279,18 @@ pub left_before : (s : Standing) (mid later : ServerState) → WorksPart mid lat
 left_before s mid later (inl same) before = subst (λ (z : ServerState). left_behind (at_server s z) mid.turns ≡ left_of mid) (sym same) (left_here s mid before)
 left_before s mid later (inr given) before =
     subst (λ (z : ServerState). left_behind (at_server s z) mid.turns ≡ left_of mid) (sym given.2) (left_next s mid before)
+
+-- ---- how many turns buckets take
+
+worked_turns : (old new : ServerState) (count : ℕ) → WorksTimes old count new → new.turns ≡ old.turns + (count + count)
+worked_turns old new zero same = let e : new.turns ≡ old.turns = ap (λ (s : ServerState). s.turns) same in omega (arith, e)
+worked_turns old new (suc count) works =
+    let before : works.0.turns ≡ old.turns + (count + count) = worked_turns old works.0 count works.1 in
+    let two : new.turns ≡ works.0.turns + 1 + 1 = ap (λ (s : ServerState). s.turns) works.3.new_is in
+    omega (arith, before, two)
+
+-- as many buckets as 64 bits count can't be worked, since the turns fit 64 bits
+pub all_worked : (old new : ServerState) → WorksUpTo 18446744073709551615 old new → new.turns < 18446744073709551616 → left_of new ≡ 0
+all_worked old new works fits = dite (dec_le 18446744073709551615 works.count)
+    (λ many. let turns : new.turns ≡ old.turns + (works.count + works.count) = worked_turns old new works.count works.worked in let bad : ⊥ = omega (arith, turns, many, fits) in absurd bad)
+    (λ not. works.rest (let lt : works.count < 18446744073709551615 = omega arith in lt))

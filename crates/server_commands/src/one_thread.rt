@@ -162,12 +162,9 @@ impl OneThread {
             Some(most) => self.work_up_to(alloc, most),
             None => {
                 self.work_up_to(alloc, u64::MAX)?;
-                // no book comes near so many buckets
-                if self.left_all() == 0 {
-                    Ok(())
-                } else {
-                    Err(AllocError)
-                }
+                // each bucket takes two turns, so there can't have been so many
+                know(self.turns());
+                Ok(())
             }
         }
     }
