@@ -1,7 +1,7 @@
 -- A change that a request made is accepted as what the request that names its numbers asks for.
-use Rattle.std.proofs.Common.{◌≡◌, ℕ, ◌+◌, ◌-◌, ◌/◌, ◌^◌, ◌<◌, ◌≤◌, ◌==◌, ◌&&◌, not, nat_lt, nat_le, Bool, true, false, cond, List, [], ◌∷◌, Option, Some, None, MatchOption, option_map, refl, sym, ap, ap₂, subst, ◌∙◌, arith, leb}
+use Rattle.std.proofs.Common.{◌≡◌, ℕ, ◌+◌, ◌-◌, ◌/◌, ◌^◌, ◌<◌, ◌≤◌, ◌==◌, ◌&&◌, nat_lt, nat_le, Bool, true, false, cond, List, [], ◌∷◌, Option, Some, None, MatchOption, option_map, ◌++◌, append-nil, inl, inr, refl, sym, ap, ap₂, subst, ◌∙◌, arith, leb}
 use Rattle.std.specs.Option.{option_and_then}
-use Rattle.std.proofs.lemmas.Bool.{eqb-true, ltb-true, leb-true, leb-false, not-false}
+use Rattle.std.proofs.lemmas.Bool.{eqb-true, ltb-true, leb-true, leb-false}
 use Rattle.std.proofs.lemmas.Option.{same_Some, cond_some}
 use Rattle.bim_model.specs.Identifiers.{identifier}
 use Rattle.bim_model.specs.declared.author.Author.{Author}
@@ -12,6 +12,7 @@ use Rattle.bcf_topics.specs.Comments.{comments_on}
 use Rattle.bcf_viewpoints.specs.Viewpoints.{views_on}
 use Rattle.bucket_grid.specs.Grids.{GridValue}
 use Rattle.book_turn.specs.declared.object.Stamp.{Stamp}
+use Rattle.book_turn.specs.Entries.{listed}
 use Rattle.clash_publish.specs.declared.horizon.TheConstants.{LIVE_VERSIONS}
 use Rattle.bucket_check.specs.ClashSets.{SetValue}
 use Rattle.book_topics.specs.Boards.{BoardState, topic_at, comment_at, view_at}
@@ -37,7 +38,7 @@ use Rattle.book_history.specs.Requests.{Outcome, Refusal, Answer, Accepted, refu
 use Rattle.book_history.specs.Legal.{IsGiven, IsLegal}
 use Rattle.book_history.specs.HistoryLaws.{IsWhole}
 use Rattle.book_history.specs.MadeEntries.{IsBuilt}
-use Rattle.book_history.specs.AcceptedChanges.{comment_sent, request_for, EndsBucket, IsAccepted, MadeIsAccepted}
+use Rattle.book_history.specs.AcceptedChanges.{comment_sent, request_for, EndsBucket, IsAccepted, IsBrought, MadeIsAccepted}
 use Rattle.book_history.proofs.OneGrid.{HasParts}
 use Rattle.book_history.proofs.Among.{bucket_among}
 
@@ -216,12 +217,8 @@ module _ (s : Settings) (h : List Entry) (n : ℕ) (c : Change) where
       let among : is_among (buckets_of v.content) w.cell ≡ true =
       subst (λ (x : Version). is_among (buckets_of x) w.cell ≡ true) g.content (bucket_among w.grid (parts_of w.grid whole) w.cell g.bucket)
       in
-      let undone : is_among v.undone w.cell ≡ true =
-      not-false (is_among v.undone w.cell)
-      (sym (ap (λ (b : Bool). b && not (is_among v.undone w.cell)) among) ∙ none_if (is_done v w.cell) fault.AlreadyDone t.1)
-      in
       let here : IsAccepted s h w.project (change.BucketDone w.version w.cell) =
-      record { low = g.low; high = g.high; made = g.made; live = live; undone = undone }
+      (record { low = g.low; high = g.high; made = g.made; live = live; bucket = among }, none_if (is_done v w.cell) fault.AlreadyDone t.1)
       in
       subst (λ (m : ℕ). IsAccepted s h m c) p.0
       (subst (λ (d : Change). IsAccepted s h w.project d) p.1 here)
@@ -353,6 +350,154 @@ module _ (s : Settings) (h : List Entry) (n : ℕ) (c : Change) where
       ∙ ap (λ (x : ℕ). Some (request.DeleteView id topic x)) (sym v.1))
   asked (request.TakeWork seat) b l e = absurd (order_never (all_orders s.projects h) seat e)
   asked (request.Finish set) b l e = finish_again set b l e
+
+-- ---- what the request by numbers asks for is the change itself
+project_once : (n m : ℕ) → identifier n 0 ≡ identifier m 0 → m ≡ n
+project_once n m e = omega (arith, e)
+
+serial_once : (n m t u : ℕ) → identifier n t ≡ identifier m u → m ≡ n → u ≡ t
+serial_once n m t u e same = omega (arith, e, same)
+
+view_once : (n m : ℕ) (o p : Option ℕ) → m ≡ n → option_map (identifier m) p ≡ option_map (identifier n) o → p ≡ o
+view_once n m None None same e = refl
+view_once n m None (Some v) same e = absurd cc
+view_once n m (Some v) None same e = absurd cc
+view_once n m (Some v) (Some w) same e =
+    ap (λ (k : ℕ). Some k) (serial_once n m v w (sym (same_Some (identifier m w) (identifier n v) e)) same)
+
+body_once : (n m : ℕ) (b k : CommentBody) → m ≡ n → comment_sent m k ≡ comment_sent n b → k ≡ b
+body_once n m b k same e =
+    ap₂ comment_body (ap (λ (x : CommentIn). x.comment) e) (view_once n m b.viewpoint k.viewpoint same (ap (λ (x : CommentIn). x.viewpoint) e))
+
+module _ (s : Settings) (h : List Entry) (n : ℕ) (m : ℕ) (d : Change) where
+  -- of a project's request: the project
+  in_own : (f : ℕ → Outcome) → in_project (project_of s.projects (identifier n 0)) f ≡ Accepted m d → (k : ℕ) × (k ≡ n) × (f k ≡ Accepted m d)
+  in_own f e =
+      let a = in_project_some s h m d (identifier n 0) f e in
+      (a.0, project_once n a.0 (numbered s.projects (identifier n 0) a.0 a.1).id, a.2)
+
+  topic_own : (k t : ℕ) (f : ℕ → Outcome) → k ≡ n → in_topic h k (identifier n t) f ≡ Accepted m d → (u : ℕ) × (u ≡ t) × (f u ≡ Accepted m d)
+  topic_own k t f same e =
+      let a = in_topic_some s h m d k (identifier n t) f e in
+      (a.0, serial_once n k t a.0 a.1 same, a.2)
+
+  comment_own : (k topic t : ℕ) (f : ℕ → Outcome) → k ≡ n → in_comment h k topic (identifier n t) f ≡ Accepted m d → (u : ℕ) × (u ≡ t) × (f u ≡ Accepted m d)
+  comment_own k topic t f same e =
+      let a = in_comment_some s h m d k topic (identifier n t) f e in
+      (a.0, serial_once n k t a.0 a.1 same, a.2)
+
+  view_own : (k topic t : ℕ) (f : ℕ → Outcome) → k ≡ n → in_view h k topic (identifier n t) f ≡ Accepted m d → (u : ℕ) × (u ≡ t) × (f u ≡ Accepted m d)
+  view_own k topic t f same e =
+      let a = in_view_some s h m d k topic (identifier n t) f e in
+      (a.0, serial_once n k t a.0 a.1 same, a.2)
+
+  body_own : (k topic : ℕ) (b : CommentBody) (f : CommentBody → Outcome) → k ≡ n → with_body h k topic (comment_sent n b) f ≡ Accepted m d → (x : CommentBody) × (x ≡ b) × (f x ≡ Accepted m d)
+  body_own k topic b f same e =
+      let a = with_body_some s h m d k topic (comment_sent n b) f e in
+      (a.0, body_once n k b a.0 same a.1, a.2)
+
+  itself : (k : ℕ) (c e : Change) → k ≡ n → c ≡ e → (k ≡ m) × (c ≡ d) → (m ≡ n) × (d ≡ e)
+  itself k c e p q r = (sym r.0 ∙ p, sym r.1 ∙ q)
+
+  own : (c : Change) → MatchOption (request_for n c) ⊥ (λ (x : BookRequest). outcome_of s h x ≡ Accepted m d) → (m ≡ n) × (d ≡ c)
+  own (change.Upload name model) e =
+      let c = change.Upload name model in
+      let a = in_own (changed s h c) e in
+      itself a.0 c c a.1 refl (changed_is s h m d a.0 c a.2)
+  own (change.Remove name) e =
+      let c = change.Remove name in
+      let a = in_own (removed s h name) e in
+      let u = refused_none s h m d (first_of (no_model (state_of a.0 h) name ∷ full s h a.0 c)) (Accepted a.0 c) a.2 in
+      itself a.0 c c a.1 refl (parts s h m d a.0 c u.1)
+  own (change.SetRules rules weight) e =
+      let c = change.SetRules rules weight in
+      let a = in_own (changed s h c) e in
+      itself a.0 c c a.1 refl (changed_is s h m d a.0 c a.2)
+  own (change.BucketDone version cell) e = absurd e
+  own (change.PostTopic body author weight) e =
+      let c = change.PostTopic body author weight in
+      let a = in_own (λ (k : ℕ). noted s h k c) e in
+      itself a.0 c c a.1 refl (noted_is s h m d a.0 c a.2)
+  own (change.PutTopic topic body author weight) e =
+      let c = λ (t : ℕ). change.PutTopic t body author weight in
+      let a = in_own (λ (k : ℕ). in_topic h k (identifier n topic) (λ (t : ℕ). noted s h k (c t))) e in
+      let t = topic_own a.0 topic (λ (t : ℕ). noted s h a.0 (c t)) a.1 a.2 in
+      itself a.0 (c t.0) (c topic) a.1 (ap c t.1) (noted_is s h m d a.0 (c t.0) t.2)
+  own (change.DeleteTopic topic) e =
+      let c = λ (t : ℕ). change.DeleteTopic t in
+      let a = in_own (λ (k : ℕ). in_topic h k (identifier n topic) (λ (t : ℕ). noted s h k (c t))) e in
+      let t = topic_own a.0 topic (λ (t : ℕ). noted s h a.0 (c t)) a.1 a.2 in
+      itself a.0 (c t.0) (c topic) a.1 (ap c t.1) (noted_is s h m d a.0 (c t.0) t.2)
+  own (change.PostComment topic body author weight) e =
+      let c = λ (t : ℕ) (b : CommentBody). change.PostComment t b author weight in
+      let sent = comment_sent n body in
+      let a = in_own (λ (k : ℕ). in_topic h k (identifier n topic) (λ (t : ℕ). with_body h k t sent (λ (b : CommentBody). noted s h k (c t b)))) e in
+      let t = topic_own a.0 topic (λ (t : ℕ). with_body h a.0 t sent (λ (b : CommentBody). noted s h a.0 (c t b))) a.1 a.2 in
+      let b = body_own a.0 t.0 body (λ (b : CommentBody). noted s h a.0 (c t.0 b)) a.1 t.2 in
+      itself a.0 (c t.0 b.0) (c topic body) a.1 (ap₂ c t.1 b.1) (noted_is s h m d a.0 (c t.0 b.0) b.2)
+  own (change.PutComment topic comment body author weight) e =
+      let c = λ (t i : ℕ) (b : CommentBody). change.PutComment t i b author weight in
+      let sent = comment_sent n body in
+      let last = λ (k t i : ℕ). with_body h k t sent (λ (b : CommentBody). noted s h k (c t i b)) in
+      let a = in_own (λ (k : ℕ). in_topic h k (identifier n topic) (λ (t : ℕ). in_comment h k t (identifier n comment) (last k t))) e in
+      let t = topic_own a.0 topic (λ (t : ℕ). in_comment h a.0 t (identifier n comment) (last a.0 t)) a.1 a.2 in
+      let i = comment_own a.0 t.0 comment (last a.0 t.0) a.1 t.2 in
+      let b = body_own a.0 t.0 body (λ (b : CommentBody). noted s h a.0 (c t.0 i.0 b)) a.1 i.2 in
+      itself a.0 (c t.0 i.0 b.0) (c topic comment body) a.1
+      (ap₂ (λ (x y : ℕ). c x y b.0) t.1 i.1 ∙ ap (c topic comment) b.1)
+      (noted_is s h m d a.0 (c t.0 i.0 b.0) b.2)
+  own (change.DeleteComment topic comment) e =
+      let c = λ (t i : ℕ). change.DeleteComment t i in
+      let last = λ (k t i : ℕ). noted s h k (c t i) in
+      let a = in_own (λ (k : ℕ). in_topic h k (identifier n topic) (λ (t : ℕ). in_comment h k t (identifier n comment) (last k t))) e in
+      let t = topic_own a.0 topic (λ (t : ℕ). in_comment h a.0 t (identifier n comment) (last a.0 t)) a.1 a.2 in
+      let i = comment_own a.0 t.0 comment (last a.0 t.0) a.1 t.2 in
+      itself a.0 (c t.0 i.0) (c topic comment) a.1 (ap₂ c t.1 i.1) (noted_is s h m d a.0 (c t.0 i.0) i.2)
+  own (change.PostView topic body weight) e =
+      let c = λ (t : ℕ). change.PostView t body weight in
+      let a = in_own (λ (k : ℕ). in_topic h k (identifier n topic) (λ (t : ℕ). noted s h k (c t))) e in
+      let t = topic_own a.0 topic (λ (t : ℕ). noted s h a.0 (c t)) a.1 a.2 in
+      itself a.0 (c t.0) (c topic) a.1 (ap c t.1) (noted_is s h m d a.0 (c t.0) t.2)
+  own (change.DeleteView topic view) e =
+      let c = λ (t v : ℕ). change.DeleteView t v in
+      let last = λ (k t v : ℕ). noted s h k (c t v) in
+      let a = in_own (λ (k : ℕ). in_topic h k (identifier n topic) (λ (t : ℕ). in_view h k t (identifier n view) (last k t))) e in
+      let t = topic_own a.0 topic (λ (t : ℕ). in_view h a.0 t (identifier n view) (last a.0 t)) a.1 a.2 in
+      let v = view_own a.0 t.0 view (last a.0 t.0) a.1 t.2 in
+      itself a.0 (c t.0 v.0) (c topic view) a.1 (ap₂ c t.1 v.1) (noted_is s h m d a.0 (c t.0 v.0) v.2)
+  own (change.ClashTopic version place author weight) e =
+      let c = change.ClashTopic version place author weight in
+      let a = in_own (clash_noted s h (Number version) place author weight) e in
+      let project = state_of a.0 h in
+      let v = version_at project.versions version in
+      let u = refused_none s h m d (first_of (not_yet project version ∷ dropped project version ∷ pending version v ∷ no_clash v place ∷ [])) (noted s h a.0 c) a.2 in
+      itself a.0 c c a.1 refl (noted_is s h m d a.0 c u.1)
+
+  pub itself_alone : (c : Change) (r : BookRequest) → request_for n c ≡ Some r → outcome_of s h r ≡ Accepted m d → (m ≡ n) × (d ≡ c)
+  itself_alone c r is e =
+      own c (subst (λ (o : Option BookRequest). MatchOption o ⊥ (λ (x : BookRequest). outcome_of s h x ≡ Accepted m d)) (sym is) e)
+
+-- what becomes of a history by the request for an entry's change
+pub brought_by : (s : Settings) (h after : List Entry) (e : Entry) (r : BookRequest) → request_for e.project e.change ≡ Some r → after ≡ h ++ listed (entry_by e.stamp (outcome_of s h r)) → IsBrought s h e after
+brought_by s h after e r is added = by (outcome_of s h r) refl
+  where
+    accepted_so : IsAccepted s h e.project e.change → outcome_of s h r ≡ Accepted e.project e.change
+    accepted_so a =
+        subst (λ (o : Option BookRequest). MatchOption o (EndsBucket s h e.project e.change) (λ (x : BookRequest). outcome_of s h x ≡ Accepted e.project e.change)) is a
+
+    nothing : (o : Outcome) → outcome_of s h r ≡ o → listed (entry_by e.stamp o) ≡ [] → after ≡ h
+    nothing o same none = added ∙ ap (λ (x : Outcome). h ++ listed (entry_by e.stamp x)) same ∙ ap (λ (l : List Entry). h ++ l) none ∙ append-nil h
+
+    by : (o : Outcome) → outcome_of s h r ≡ o → IsBrought s h e after
+    by (Refusal f) same = inr (λ a. absurd (let x : Refusal f ≡ Accepted e.project e.change = sym same ∙ accepted_so a in cc), nothing (Refusal f) same refl)
+    by (Answer body) same = inr (λ a. absurd (let x : Answer body ≡ Accepted e.project e.change = sym same ∙ accepted_so a in cc), nothing (Answer body) same refl)
+    by (Accepted m d) same =
+        let p = itself_alone s h e.project m d e.change r is same in
+        let own : outcome_of s h r ≡ Accepted e.project e.change = same ∙ ap₂ Accepted p.0 p.1 in
+        inl (
+          again s h e.project e.change r own is,
+          added ∙ ap (λ (x : Outcome). h ++ listed (entry_by e.stamp x)) own,
+        )
 
 -- the entry of an outcome
 outcome_is : (stamp : Stamp) (o : Outcome) (e : Entry) → entry_by stamp o ≡ Some e → o ≡ Accepted e.project e.change

@@ -1,5 +1,5 @@
 -- Changes that another book of the same history accepted, and when they are accepted again.
-use Rattle.std.specs.Prelude.{◌≡◌, ℕ, ◌+◌, ◌<◌, ◌≤◌, List, true, Option, Some, None, option_map, MatchOption}
+use Rattle.std.specs.Prelude.{◌≡◌, ℕ, ◌+◌, ◌<◌, ◌≤◌, List, [], ◌∷◌, ◌++◌, ◌⊎◌, true, false, Option, Some, None, option_map, MatchOption}
 use Rattle.bim_model.specs.Identifiers.{identifier}
 use Rattle.bucket_grid.specs.declared.cell.Cell.{Cell}
 use Rattle.bcf_topics.specs.declared.comment.CommentBody.{CommentBody}
@@ -12,8 +12,9 @@ use Rattle.book_history.specs.declared.requests.BookRequest.TheVariants as reque
 use Rattle.book_history.specs.declared.changes.Change.{Change}
 use Rattle.book_history.specs.declared.changes.Change.TheVariants as change
 use Rattle.book_history.specs.declared.changes.Entry.{Entry}
-use Rattle.book_history.specs.Buckets.{is_among}
-use Rattle.book_history.specs.History.{newest_of, version_of}
+use Rattle.book_history.specs.Buckets.{buckets_of, is_among}
+use Rattle.book_history.specs.Versions.{is_done}
+use Rattle.book_history.specs.History.{newest_of, version_of, content_of}
 use Rattle.book_history.specs.Requests.{Accepted, outcome_of}
 use Rattle.book_history.specs.MadeEntries.{IsMadeAt}
 
@@ -52,14 +53,20 @@ request_for project (change.DeleteView topic view) =
 request_for project (change.ClashTopic version place author weight) =
     Some (request.ClashTopic (identifier project 0) (Number version) place author weight)
 
--- a bucket of a live version of a project is still to be checked
-pub record IsOpenBucket (settings : Settings) (history : List Entry) (project version : ℕ) (cell : Cell)
+-- a version of a project that is one of its last sixteen has a bucket of this cell
+pub record IsLiveBucket (settings : Settings) (history : List Entry) (project version : ℕ) (cell : Cell)
     : Type 0 where
   pub low : 1 ≤ project
   pub high : project ≤ settings.projects
   pub made : version ≤ newest_of project history
   pub live : newest_of project history < version + LIVE_VERSIONS
-  pub undone : is_among (version_of project version history).undone cell ≡ true
+  pub bucket : is_among (buckets_of (content_of project version history)) cell ≡ true
+
+-- .. which is still to be checked
+abbrev pub IsOpenBucket : Settings → List Entry → ℕ → ℕ → Cell → Type 0
+IsOpenBucket settings history project version cell =
+    IsLiveBucket settings history project version cell
+    × (is_done (version_of project version history) cell ≡ false)
 
 -- the same of the bucket that a change says is done
 abbrev pub EndsBucket : Settings → List Entry → ℕ → Change → Type 0
@@ -72,6 +79,13 @@ abbrev pub IsAccepted : Settings → List Entry → ℕ → Change → Type 0
 IsAccepted settings history project change =
     MatchOption (request_for project change) (EndsBucket settings history project change)
     (λ request. outcome_of settings history request ≡ Accepted project change)
+
+-- what becomes of a history where an entry is brought: it has the entry too where its change is accepted there,
+-- and else nothing changes
+abbrev pub IsBrought : Settings → List Entry → Entry → List Entry → Type 0
+IsBrought settings history entry after =
+    (IsAccepted settings history entry.project entry.change × (after ≡ history ++ entry ∷ []))
+    ⊎ ((IsAccepted settings history entry.project entry.change → ⊥) × (after ≡ history))
 
 -- an entry that was made at a history is accepted there
 abbrev pub MadeIsAccepted : Type 0

@@ -5,12 +5,15 @@ ghost use Rattle.book_history.specs.Settings.{IsWithinStated};
 ghost use Rattle.book_history.specs.History.{left_all, IsBefore, IsHistory};
 ghost use Rattle.book_history.specs.Requests.{reply_of, added_by};
 ghost use Rattle.book_history.specs.Legal.{IsLegal};
-ghost use Rattle.federation_book.specs.KeptProjects.{IsKept, settings_of};
+ghost use Rattle.book_history.specs.HistoryLaws.{IsWhole};
+ghost use Rattle.book_history.specs.MadeEntries.{IsBuilt, AreMade};
 
 use crate::asking::act_on;
 use crate::project::Project;
 use crate::state::State;
+use bim_model::know;
 use book_history::{BookReply, BookRequest, Entry, Limits, MOST_PROJECTS, Settings, Stamp};
+use bucket_grid::Grid;
 use std::alloc::{AllocError, Global};
 
 /// The history of the projects, and what follows from it.
@@ -21,13 +24,34 @@ pub struct Book {
 
 impl std::marker::Model for Book {
     ghost use Rattle.book_history.specs.Requests.{BookState};
-    ghost use Rattle.federation_book.specs.KeptProjects.{IsKept, settings_of};
+    ghost use Rattle.federation_book.specs.KeptProjects.{IsBook, settings_of};
 
     ghost Value = { BookState };
 
     ghost view = { λ b. record { settings = settings_of b.state; journal = b.state.entries.items } };
 
-    ghost invariant = { λ b. IsKept b.state };
+    ghost invariant = { λ b. IsBook b.state };
+}
+
+// What is known of every grid: all that it holds is that of its version.
+fn know_whole(grid: &Grid)
+    ensures { IsWhole grid.now }
+{
+    know(grid.models());
+    know(grid.places());
+    know(grid.boxes());
+    know(grid.buckets());
+    know(grid.memberships());
+}
+
+// What is known of every request.
+fn know_built(request: &BookRequest)
+    ensures { IsBuilt request.now }
+{
+    match request {
+        BookRequest::Finish { set } => know_whole(set.get().work().grid.get()),
+        _ => {}
+    }
 }
 
 impl Book {
@@ -55,10 +79,11 @@ impl Book {
         })
     }
 
-    /// The accepted changes by rising turn, lent.
+    /// The accepted changes by rising turn, lent. Each was made by a request at those before it.
     pub fn journal(&self) -> &[Entry]
         ensures entries { result.now ≡ self.now.journal }
         ensures rising { IsHistory result.now }
+        ensures made { AreMade self.now.settings result.now }
     {
         self.state.entries.as_slice()
     }
@@ -93,6 +118,7 @@ impl Book {
         ensures after { IsBefore (stamp.turn + 1) self.new.journal }
         ensures err { OnErr result (self.new ≡ self.old) }
     {
+        know_built(&request);
         let body = act_on(&mut self.state, stamp, request)?;
         Ok(BookReply {
             body,
