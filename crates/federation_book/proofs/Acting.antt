@@ -21,7 +21,7 @@ use Rattle.federation_book.specs.inner.Done.{IsDone, IsTold}
 use Rattle.federation_book.specs.declared.project.Project.{Project}
 use Rattle.federation_book.proofs.Answering.{numbered, nothing_added}
 
-later : (turn : ℕ) (h : List Entry) → IsBefore turn h → IsBefore (turn + 1) h
+pub later : (turn : ℕ) (h : List Entry) → IsBefore turn h → IsBefore (turn + 1) h
 later turn h before = All-weaker (λ (e : Entry). e.stamp.turn < turn) (λ (e : Entry). e.stamp.turn < turn + 1) (λ e lt. omega (arith, lt)) h before
 
 own_before : (turn : ℕ) (es : List Entry) → AreOf turn es → IsBefore (turn + 1) es

@@ -20,3 +20,4 @@ pub mod Subjects
 pub mod Counted
 pub mod Clashing
 pub mod Applied
+pub mod Brought

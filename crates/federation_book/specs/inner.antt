@@ -3,3 +3,4 @@ pub mod Done
 pub mod NextVersions
 pub mod Noting
 pub mod RequestSubjects
+pub mod AskedChanges

@@ -1,5 +1,5 @@
 //! The book.
-ghost use Rattle.std.specs.Prelude.{◌≡◌, ◌≤◌, ◌+◌, ◌++◌, [], IfOk, OnOk, OnErr};
+ghost use Rattle.std.specs.Prelude.{◌≡◌, ◌↔◌, ◌≤◌, ◌+◌, ◌++◌, [], ◌∷◌, if◌then◌else◌, IsTrue, IsSome, IfOk, OnOk, OnErr};
 ghost use Rattle.book_history.specs.declared.limits.TheConstants.{MOST_PROJECTS};
 ghost use Rattle.book_history.specs.Settings.{IsWithinStated};
 ghost use Rattle.book_history.specs.History.{left_all, IsBefore, IsHistory};
@@ -7,7 +7,9 @@ ghost use Rattle.book_history.specs.Requests.{reply_of, added_by};
 ghost use Rattle.book_history.specs.Legal.{IsLegal};
 ghost use Rattle.book_history.specs.HistoryLaws.{IsWhole};
 ghost use Rattle.book_history.specs.MadeEntries.{IsBuilt, AreMade};
+ghost use Rattle.book_history.specs.AcceptedChanges.{request_for, IsAccepted};
 
+use crate::applying::bring;
 use crate::asking::act_on;
 use crate::project::Project;
 use crate::state::State;
@@ -124,5 +126,24 @@ impl Book {
             body,
             horizon: self.state.horizon(),
         })
+    }
+
+    /// Brings an entry that another book made, of a turn above those of the journal, and tells whether it was added:
+    /// it is where a request for its change would be accepted here. An `Err` leaves the book as it was. The condition
+    /// is that the entry isn't of a bucket that is done: `act` takes the bucket's clashes.
+    pub fn bring(&mut self, entry: Entry) -> Result<bool, AllocError>
+        requires after { IsBefore entry.stamp.turn self.old.journal }
+        requires asked { IsSome (request_for entry.project entry.change) }
+        ensures accepted { IfOk result (λ added. IsTrue added
+            ↔ IsAccepted self.old.settings self.old.journal entry.project entry.change) }
+        ensures journal { IfOk result (λ added. self.new.journal
+            ≡ self.old.journal ++ (if added then entry ∷ [] else [])) }
+        ensures settings { self.new.settings ≡ self.old.settings }
+        ensures after { IsBefore (entry.stamp.turn + 1) self.new.journal }
+        ensures err { OnErr result (self.new ≡ self.old) }
+    {
+        let before = self.state.entries.len();
+        bring(&mut self.state, entry)?;
+        Ok(self.state.entries.len() > before)
     }
 }
