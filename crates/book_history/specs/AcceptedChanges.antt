@@ -12,10 +12,11 @@ use Rattle.book_history.specs.declared.requests.BookRequest.TheVariants as reque
 use Rattle.book_history.specs.declared.changes.Change.{Change}
 use Rattle.book_history.specs.declared.changes.Change.TheVariants as change
 use Rattle.book_history.specs.declared.changes.Entry.{Entry}
+use Rattle.book_history.specs.Orders.{OrderValue}
 use Rattle.book_history.specs.Buckets.{buckets_of, is_among}
 use Rattle.book_history.specs.Versions.{is_done}
 use Rattle.book_history.specs.History.{newest_of, version_of, content_of}
-use Rattle.book_history.specs.Requests.{Accepted, outcome_of}
+use Rattle.book_history.specs.Requests.{Accepted, order_at, outcome_of}
 use Rattle.book_history.specs.MadeEntries.{IsMadeAt}
 
 -- a comment as it is sent whose body is kept so in the project
@@ -62,7 +63,14 @@ pub record IsLiveBucket (settings : Settings) (history : List Entry) (project ve
   pub live : newest_of project history < version + LIVE_VERSIONS
   pub bucket : is_among (buckets_of (content_of project version history)) cell ≡ true
 
--- .. which is still to be checked
+-- the order to check it, or none where there is no such bucket
+abbrev pub IsWorkOf : Settings → List Entry → ℕ → ℕ → Cell → Option OrderValue → Type 0
+IsWorkOf settings history project version cell work =
+    MatchOption work (IsLiveBucket settings history project version cell → ⊥)
+    (λ order. IsLiveBucket settings history project version cell
+    × (order ≡ order_at project version (content_of project version history) cell))
+
+-- a bucket of a live version is still to be checked
 abbrev pub IsOpenBucket : Settings → List Entry → ℕ → ℕ → Cell → Type 0
 IsOpenBucket settings history project version cell =
     IsLiveBucket settings history project version cell

@@ -67,6 +67,17 @@ module _ (g : GridValue) (h : HasParts g) (slots : List Slot) (is : IsOf g slots
       let in_cells : Contains (cells_of slots) c = (b.0, omega (arith, b.2, n), get_or-map (λ (s : Slot). s.cell) slots b.0 b.1 c b.2 ∙ ap (λ (s : Slot). s.cell) b.3 ∙ b.4) in
       (buckets_listed g.boxes h.near).each c (subst (λ l. Contains l c) (is.buckets ∙ table_cells g.boxes g.buckets h.near h.table) in_cells)
 
+  -- the buckets of the version are those of the progress
+  pub among_of : (c : Cell) → IsBucketOf slots c → is_among (buckets_of g.version) c ≡ true
+  among_of c b = bucket_among g h c (bucket_from c b)
+
+  pub among_none : (c : Cell) → (IsBucketOf slots c → ⊥) → is_among (buckets_of g.version) c ≡ false
+  among_none c not = by (is_among (buckets_of g.version) c) refl
+    where
+      by : (b : Bool) → is_among (buckets_of g.version) c ≡ b → b ≡ false
+      by true e = absurd (not (bucket_of c (among_bucket g h c e)))
+      by false e = refl
+
   -- a bucket that is done, by the progress and by what is left
   pub done_then : (c : Cell) → is_done (record { content = g.version; undone = undone_cells slots }) c ≡ true → IsBucket g.boxes c × IsDone slots c
   done_then c e =

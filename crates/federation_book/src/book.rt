@@ -7,15 +7,18 @@ ghost use Rattle.book_history.specs.Requests.{reply_of, added_by};
 ghost use Rattle.book_history.specs.Legal.{IsLegal};
 ghost use Rattle.book_history.specs.HistoryLaws.{IsWhole};
 ghost use Rattle.book_history.specs.MadeEntries.{IsBuilt, AreMade};
-ghost use Rattle.book_history.specs.AcceptedChanges.{request_for, IsAccepted};
+ghost use Rattle.book_history.specs.AcceptedChanges.{request_for, IsAccepted, IsWorkOf};
 
 use crate::applying::bring;
 use crate::asking::act_on;
 use crate::project::Project;
 use crate::state::State;
+use crate::working::work_of;
 use bim_model::know;
-use book_history::{BookReply, BookRequest, Entry, Limits, MOST_PROJECTS, Settings, Stamp};
-use bucket_grid::Grid;
+use book_history::{
+    BookReply, BookRequest, Entry, Limits, MOST_PROJECTS, Settings, Stamp, WorkOrder,
+};
+use bucket_grid::{Cell, Grid};
 use std::alloc::{AllocError, Global};
 
 /// The history of the projects, and what follows from it.
@@ -105,6 +108,19 @@ impl Book {
         ensures { result ≡ left_all self.now.settings.projects self.now.journal }
     {
         self.state.left_all()
+    }
+
+    /// The bucket of a cell of a live version, to be checked, whether it is done or not. None exactly where the version
+    /// isn't one of a project's last sixteen, or the cell is no bucket of it.
+    pub fn work_of(
+        &self,
+        project: u32,
+        version: u64,
+        cell: Cell,
+    ) -> Result<Option<WorkOrder>, AllocError>
+        ensures { IfOk result (IsWorkOf self.now.settings self.now.journal project version cell) }
+    {
+        work_of(&self.state, project, version, cell)
     }
 
     /// Answers a request at a turn above those of the journal, and adds its entry where it accepts a change. An
