@@ -79,7 +79,10 @@ pub fn work_of(
     requires { IsKept state.now }
     ensures { IfOk result (IsWorkOf (settings_of state.now) state.now.entries.items number version cell) }
 {
-    if number == 0 || number as usize > state.projects.len() {
+    if number == 0 {
+        return Ok(None);
+    }
+    if number as usize > state.projects.len() {
         return Ok(None);
     }
     let project = state.project(number);
