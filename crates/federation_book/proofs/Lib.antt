@@ -21,4 +21,4 @@ pub mod Counted
 pub mod Clashing
 pub mod Applied
 pub mod Brought
-pub mod Working
+pub mod OneBucket

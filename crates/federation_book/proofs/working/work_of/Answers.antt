@@ -4,7 +4,7 @@ use Rattle.book_history.specs.Versions.{VersionState}
 use Rattle.book_history.specs.History.{state_of}
 use Rattle.federation_book.specs.KeptProjects.{settings_of}
 use Rattle.federation_book.proofs.Reading.{newest_is, live_place, placed}
-use Rattle.federation_book.proofs.Working.{work_then}
+use Rattle.federation_book.proofs.OneBucket.{work_then}
 use Rattle.federation_book.proofs.working.work_of.Goals as goal
 
 pub returns-then-number-eq0 : goal.returns-then-number-eq0
