@@ -499,13 +499,6 @@ brought_by s h after e r is added = by (outcome_of s h r) refl
           added ∙ ap (λ (x : Outcome). h ++ listed (entry_by e.stamp x)) own,
         )
 
--- the entry of an outcome
-outcome_is : (stamp : Stamp) (o : Outcome) (e : Entry) → entry_by stamp o ≡ Some e → o ≡ Accepted e.project e.change
-outcome_is stamp (Refusal f) e is = absurd cc
-outcome_is stamp (Answer body) e is = absurd cc
-outcome_is stamp (Accepted number change) e is =
-    ap (λ (x : Entry). Accepted x.project x.change) (same_Some (entry_of stamp number change) e is)
-
 pub made_is_accepted : MadeIsAccepted
 made_is_accepted s h e made =
-    asked s h e.project e.change made.request made.built made.legal (outcome_is e.stamp (outcome_of s h made.request) e made.added)
+    asked s h e.project e.change made.request made.built made.legal made.becomes

@@ -1,10 +1,10 @@
 -- Histories whose entries were made by requests, each at the entries before it.
-use Rattle.std.specs.Prelude.{◌≡◌, List, [], ◌∷◌, ◌++◌, Some}
+use Rattle.std.specs.Prelude.{◌≡◌, List, [], ◌∷◌, ◌++◌}
 use Rattle.book_history.specs.declared.limits.Settings.{Settings}
 use Rattle.book_history.specs.declared.requests.BookRequest.{BookRequest}
 use Rattle.book_history.specs.declared.requests.BookRequest.TheVariants.{Finish}
 use Rattle.book_history.specs.declared.changes.Entry.{Entry}
-use Rattle.book_history.specs.Requests.{entry_added}
+use Rattle.book_history.specs.Requests.{Accepted, outcome_of}
 use Rattle.book_history.specs.Legal.{IsLegal}
 use Rattle.book_history.specs.HistoryLaws.{IsWhole}
 
@@ -13,12 +13,12 @@ abbrev pub IsBuilt : BookRequest → Type 0
 IsBuilt (Finish set) = IsWhole set.work.grid
 IsBuilt _ = Unit {0}
 
--- some request that may be made at the history adds the entry
+-- some request that may be made at the history becomes the entry's change
 pub record IsMadeAt (settings : Settings) (history : List Entry) (entry : Entry) : Type 0 where
   pub request : BookRequest
   pub built : IsBuilt request
   pub legal : IsLegal settings history request
-  pub added : entry_added settings history entry.stamp request ≡ Some entry
+  pub becomes : outcome_of settings history request ≡ Accepted entry.project entry.change
 
 -- after a history: each of these entries is made so, at that history and the entries before it
 abbrev pub AreMadeAfter : Settings → List Entry → List Entry → Type 0

@@ -13,7 +13,7 @@ use Rattle.book_history.specs.declared.changes.Entry.{Entry}
 use Rattle.book_history.specs.declared.limits.Settings.{Settings}
 use Rattle.book_history.specs.declared.requests.BookRequest.{BookRequest}
 use Rattle.book_history.specs.declared.requests.BookRequest.TheVariants as request
-use Rattle.book_history.specs.Requests.{Accepted, entry_by, outcome_of}
+use Rattle.book_history.specs.Requests.{Accepted, outcome_of}
 use Rattle.book_history.specs.History.{IsBefore}
 use Rattle.book_history.specs.Legal.{IsLegal}
 use Rattle.book_history.specs.MadeEntries.{IsBuilt, IsMadeAt, AreMade}
@@ -92,7 +92,7 @@ made_of s h e (Some r) is some a =
       request = r;
       built = free.1;
       legal = free.0;
-      added = ap (entry_by e.stamp) outcome;
+      becomes = outcome;
     }
 
 pub made_brought : (s : Settings) (h k : List Entry) (e : Entry) → IsSome (request_for e.project e.change) → AreMade s h → IsBrought s h e k → AreMade s k
