@@ -161,9 +161,9 @@ impl KeptVersion {
         version: u64,
         cell: Cell,
     ) -> Result<Option<WorkOrder>, AllocError>
-        ensures { IfOk result (λ order. MatchOption order (is_among (buckets_of self.now.content) cell ≡ false)
-            (λ o. (is_among (buckets_of self.now.content) cell ≡ true)
-            × (o ≡ order_at project version self.now.content cell))) }
+        ensures { let there = is_among (buckets_of self.now.content) cell in
+            IfOk result (λ order. MatchOption order (there ≡ false)
+            (λ o. (there ≡ true) × (o ≡ order_at project version self.now.content cell))) }
     {
         know_grid(self.grid.get());
         if !self.progress.is_bucket(cell) {

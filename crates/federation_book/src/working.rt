@@ -64,7 +64,8 @@ pub fn take_work(state: &State, seat: u32) -> Result<ReplyBody, AllocError>
 
 // Whether a version of the number is one of the last sixteen.
 fn is_live(project: &Project, version: u64) -> bool
-    ensures { IsTrue result ↔ (version ≤ project.now.newest) × (project.now.newest < version + LIVE_VERSIONS) }
+    ensures { IsTrue result
+        ↔ (version ≤ project.now.newest) × (project.now.newest < version + LIVE_VERSIONS) }
 {
     version <= project.newest && project.newest - version < LIVE_VERSIONS
 }
