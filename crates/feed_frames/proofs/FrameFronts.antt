@@ -12,7 +12,7 @@ use Rattle.feed_frames.specs.inner.FrameFronts.{IsFrameAt}
 use Rattle.feed_frames.proofs.Formats.{IsBytes, IsBytes-front}
 
 -- bytes as they are cut into a count, so many bytes, and the rest
-pub count_spelled : (bytes : List ℕ) → IsBytes bytes → 8 ≤ length bytes → take 8 bytes ≡ long_bytes (count_at bytes)
+count_spelled : (bytes : List ℕ) → IsBytes bytes → 8 ≤ length bytes → take 8 bytes ≡ long_bytes (count_at bytes)
 unfolding long_bytes
 count_spelled bytes fits long =
     let whole : bytes ≡ take 8 bytes ++ drop 8 bytes = sym (take-append-drop 8 bytes) in
@@ -20,29 +20,33 @@ count_spelled bytes fits long =
     let eight : length (take 8 bytes) ≡ 8 = omega (arith, length-take 8 bytes) in
     sym (be_bytes_8 (take 8 bytes) (count_at bytes) eight front refl)
 
--- how many bytes the frame has, and its count says
+-- the inside has as many bytes as the count says
 inside_length : (bytes inside : List ℕ) → IsFrameAt bytes inside → length inside ≡ count_at bytes
 inside_length bytes inside f =
-    ap length f.is ∙ omega (arith, length-take (count_at bytes) (drop 8 bytes), length-drop 8 bytes, f.whole)
+    let whole : 8 + count_at bytes ≤ length bytes = f.1 in
+    let all : length (take (count_at bytes) (drop 8 bytes)) ≡ count_at bytes =
+    omega (arith, length-take (count_at bytes) (drop 8 bytes), length-drop 8 bytes, whole)
+    in
+    ap length f.2 ∙ all
 
 long_length : (n : ℕ) → length (long_bytes n) ≡ 8
 unfolding long_bytes
 long_length n = refl
 
-pub frame_length : (e : Entry) → length (frame e) ≡ 8 + length (payload e)
+frame_length : (e : Entry) → length (frame e) ≡ 8 + length (payload e)
 unfolding frame
 frame_length e =
     omega (arith, length-append (long_bytes (length (payload e))) (payload e), long_length (length (payload e)))
 
 -- the frame of the entry that its payload spells, and what stands behind it
-pub stands_before : (bytes inside : List ℕ) (e : Entry) → IsFrameAt bytes inside → payload e ≡ inside → bytes ≡ frame e ++ drop (8 + length inside) bytes
+stands_before : (bytes inside : List ℕ) (e : Entry) → IsBytes bytes → IsFrameAt bytes inside → payload e ≡ inside → bytes ≡ frame e ++ drop (8 + length inside) bytes
 unfolding frame
-stands_before bytes inside e f same =
+stands_before bytes inside e fits f same =
     let n = count_at bytes in
     let size : length inside ≡ n = inside_length bytes inside f in
     let rest : List ℕ = drop 8 bytes in
-    let front : take 8 bytes ≡ long_bytes (length (payload e)) = f.count ∙ ap long_bytes (sym size ∙ ap length (sym same)) in
-    let middle : take n rest ≡ payload e = sym (same ∙ f.is) in
+    let front : take 8 bytes ≡ long_bytes (length (payload e)) = count_spelled bytes fits f.0 ∙ ap long_bytes (sym size ∙ ap length (sym same)) in
+    let middle : take n rest ≡ payload e = sym (same ∙ f.2) in
     let behind : drop n rest ≡ drop (8 + length inside) bytes =
     drop-drop n 8 bytes ∙ ap (λ (k : ℕ). drop (8 + k) bytes) (sym size)
     in
@@ -53,13 +57,35 @@ stands_before bytes inside e f same =
     ∙ ap (λ (l : List ℕ). long_bytes (length (payload e)) ++ (payload e ++ l)) behind
     ∙ sym (append_assoc (long_bytes (length (payload e))) (payload e) (drop (8 + length inside) bytes))
 
+-- the frame of an entry stands there, of so many bytes
+pub record IsWhole (bytes : List ℕ) (e : Entry) (size : ℕ) : Type 0 where
+  pub first : bytes ≡ frame e ++ drop size bytes
+  pub size : size ≡ length (frame e)
+
+-- the entry that stands there
+pub is_whole : (bytes inside : List ℕ) (e : Entry) (size : ℕ) → IsBytes bytes → IsFrameAt bytes inside → payload e ≡ inside → size ≡ 8 + length inside → IsWhole bytes e size
+is_whole bytes inside e size fits f same is =
+    let long : length (payload e) ≡ length inside = ap length same in
+    record {
+      first = stands_before bytes inside e fits f same ∙ ap (λ (n : ℕ). frame e ++ drop n bytes) (sym is);
+      size = omega (arith, frame_length e, long, is);
+    }
+
 -- a frame whose payload spells no entry
 pub is_bad : (bytes inside : List ℕ) → IsFrameAt bytes inside → ((e : Entry) → IsEntry e → payload e ≢ inside) → IsBadFrame bytes
 is_bad bytes inside f none = record {
-  counted = f.counted;
-  whole = f.whole;
-  none = λ e good same. none e good (same ∙ sym f.is);
+  counted = f.0;
+  whole = f.1;
+  none = λ e good same. none e good (same ∙ sym f.2);
 }
+
+-- what stands behind a frame
+pub behind_whole : (items : List ℕ) (start size : ℕ) (e : Entry) → IsWhole (drop start items) e size → drop start items ≡ frame e ++ drop (start + size) items
+behind_whole items start size e w = w.first ∙ ap (λ (l : List ℕ). frame e ++ l) (drop-drop size start items)
+
+-- room for the count, and the payload behind it
+pub room_for : (before : List ℕ) (e : Entry) → before ≡ long_bytes 0 ++ payload e → 8 ≤ length before
+room_for before e same = omega (arith, ap length same, length-append (long_bytes 0) (payload e), long_length 0)
 
 -- a count written over the first eight bytes, before a payload
 pub framed : (e : Entry) (before : List ℕ) → before ≡ long_bytes 0 ++ payload e → long_bytes (length before - 8) ++ drop 8 before ≡ frame e

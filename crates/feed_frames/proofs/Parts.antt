@@ -29,12 +29,14 @@ use Rattle.bcf_viewpoints.specs.declared.component.Coloring.{Coloring}
 use Rattle.bcf_viewpoints.specs.declared.view.ViewBody.{ViewBody}
 use Rattle.bucket_grid.specs.declared.cell.Cell.{Cell}
 use Rattle.book_turn.specs.declared.object.Stamp.{Stamp}
-use Rattle.feed_frames.specs.FieldBytes.{long_bytes, short_bytes, text_bytes, optional_bytes, counted_bytes}
-use Rattle.feed_frames.specs.EntryBytes.{guid_bytes, point_bytes, triangle_bytes, element_bytes, class_test_bytes, storey_test_bytes, model_test_bytes, rule_kind_bytes, rule_bytes, author_bytes, topic_bytes, comment_bytes, component_bytes, coloring_bytes, view_bytes, cell_bytes, stamp_bytes}
-use Rattle.feed_frames.specs.SpelledEntries.{IsLong, IsShort, FitsText, FitsList, FitsGuid, FitsPoint, FitsTriangle, FitsElement, FitsClassTest, FitsLevel, FitsRuleKind, FitsRule, FitsRules, FitsAuthor, FitsTopic, FitsComment, FitsComponent, FitsColoring, FitsView, FitsCell, FitsStamp}
+use Rattle.feed_frames.specs.FieldBytes.{long_bytes, short_bytes, signed_bytes, text_bytes, optional_bytes, counted_bytes}
+use Rattle.feed_frames.specs.EntryBytes.{guid_bytes, point_bytes, triangle_bytes, element_bytes, class_test_bytes, storey_test_bytes, model_test_bytes, rule_kind_bytes, rule_bytes, author_bytes, topic_front_bytes, topic_back_bytes, topic_bytes, comment_bytes, component_bytes, coloring_bytes, view_bytes, cell_bytes, stamp_bytes}
+use Rattle.feed_frames.specs.SpelledEntries.{IsLong, IsShort, IsSigned, FitsText, FitsList, FitsGuid, FitsPoint, FitsTriangle, FitsElement, FitsClassTest, FitsLevel, FitsRuleKind, FitsRule, FitsRules, FitsAuthor, FitsTopic, FitsComment, FitsComponent, FitsColoring, FitsView, FitsCell, FitsStamp}
+use Rattle.feed_frames.specs.declared.topic_fields.TopicFront.{TopicFront}
+use Rattle.feed_frames.specs.declared.topic_fields.TopicBack.{TopicBack}
 use Rattle.feed_frames.specs.inner.Readers.{Reader, nothing_at, both_at, made_at, checked_at, kind_at, no_kind, kinds_at}
 use Rattle.feed_frames.specs.inner.FieldReaders.{text_at}
-use Rattle.feed_frames.specs.inner.EntryReaders.{guid_at, moment_at, point_at, triangle_at, element_at, is_class_name, class_test_at, storey_test_at, model_test_at, distance_at, rule_kind_at, is_level, level_at, rule_at, rules_at, author_at, topic_at, comment_at, component_at, coloring_at, view_at, cell_at, stamp_at}
+use Rattle.feed_frames.specs.inner.EntryReaders.{guid_at, moment_at, point_at, triangle_at, element_at, is_class_name, class_test_at, storey_test_at, model_test_at, distance_at, rule_kind_at, is_level, level_at, rule_at, rules_at, author_at, topic_front_at, topic_back_at, topic_by, topic_at, comment_at, component_at, coloring_at, view_at, cell_at, stamp_at}
 use Rattle.feed_frames.proofs.Formats.{IsFormat, nothing, cut, both, made, into_again, checked, good_as, spelled_as, no_kinds, with_kind, kinds_format}
 use Rattle.feed_frames.proofs.Fields.{long, short, signed, truth, text, optional, counted}
 
@@ -262,43 +264,60 @@ author =
     made (both text moment) (λ p. record { user = p.0; moment = p.1 })
     (λ (a : Author). (a.user, a.moment)) (λ x p. refl) (λ x p. p) (λ y p. refl) (λ y p. p)
 
-pub topic : IsFormat TopicBody topic_at topic_bytes FitsTopic
-unfolding topic_at topic_bytes
-topic =
-    made
-    (both text
-    (both (optional text)
-    (both (optional text)
-    (both (optional text)
-    (both (optional signed)
-    (both (counted text)
-    (both (optional text) (both (optional text) (both (optional text) (optional moment))))))))))
+topic_front : IsFormat TopicFront topic_front_at (λ f. text_bytes f.title ++ (optional_bytes text_bytes f.topic_type ++ (optional_bytes text_bytes f.topic_status ++ (optional_bytes text_bytes f.priority ++ optional_bytes signed_bytes f.index)))) (λ f. FitsText f.title × (IfSome f.topic_type FitsText × (IfSome f.topic_status FitsText × (IfSome f.priority FitsText × IfSome f.index IsSigned))))
+unfolding topic_front_at
+topic_front =
+    made (both text (both (optional text) (both (optional text) (both (optional text) (optional signed)))))
     (λ p. record {
       title = p.0;
       topic_type = p.1.0;
       topic_status = p.1.1.0;
       priority = p.1.1.1.0;
-      index = p.1.1.1.1.0;
-      labels = p.1.1.1.1.1.0;
-      assigned_to = p.1.1.1.1.1.1.0;
-      stage = p.1.1.1.1.1.1.1.0;
-      description = p.1.1.1.1.1.1.1.1.0;
-      due = p.1.1.1.1.1.1.1.1.1;
+      index = p.1.1.1.1;
     })
-    (λ (t : TopicBody). (
-      t.title,
-      (
-        t.topic_type,
-        (
-          t.topic_status,
-          (
-            t.priority,
-            (t.index, (t.labels, (t.assigned_to, (t.stage, (t.description, t.due))))),
-          ),
-        ),
-      ),
-    ))
+    (λ (f : TopicFront). (f.title, (f.topic_type, (f.topic_status, (f.priority, f.index)))))
     (λ x p. refl) (λ x p. p) (λ y p. refl) (λ y p. p)
+
+topic_back : IsFormat TopicBack topic_back_at (λ b. counted_bytes text_bytes b.labels ++ (optional_bytes text_bytes b.assigned_to ++ (optional_bytes text_bytes b.stage ++ (optional_bytes text_bytes b.description ++ optional_bytes long_bytes b.due)))) (λ b. FitsList FitsText b.labels × (IfSome b.assigned_to FitsText × (IfSome b.stage FitsText × (IfSome b.description FitsText × IfSome b.due IsMoment))))
+unfolding topic_back_at
+topic_back =
+    made (both (counted text) (both (optional text) (both (optional text) (both (optional text) (optional moment)))))
+    (λ p. record {
+      labels = p.0;
+      assigned_to = p.1.0;
+      stage = p.1.1.0;
+      description = p.1.1.1.0;
+      due = p.1.1.1.1;
+    })
+    (λ (b : TopicBack). (b.labels, (b.assigned_to, (b.stage, (b.description, b.due)))))
+    (λ x p. refl) (λ x p. p) (λ y p. refl) (λ y p. p)
+
+abbrev front_of : TopicBody → TopicFront
+front_of t = record {
+  title = t.title;
+  topic_type = t.topic_type;
+  topic_status = t.topic_status;
+  priority = t.priority;
+  index = t.index;
+}
+
+abbrev back_of : TopicBody → TopicBack
+back_of t = record {
+  labels = t.labels;
+  assigned_to = t.assigned_to;
+  stage = t.stage;
+  description = t.description;
+  due = t.due;
+}
+
+pub topic : IsFormat TopicBody topic_at topic_bytes FitsTopic
+unfolding topic_at topic_bytes topic_front_bytes topic_back_bytes
+topic =
+    made (both topic_front topic_back) topic_by (λ (t : TopicBody). (front_of t, back_of t))
+    (λ x p. refl)
+    (λ x p. (p.0.0, (p.0.1.0, (p.0.1.1.0, (p.0.1.1.1.0, (p.0.1.1.1.1, p.1))))))
+    (λ y p. refl)
+    (λ y p. ((p.0, (p.1.0, (p.1.1.0, (p.1.1.1.0, p.1.1.1.1.0)))), p.1.1.1.1.1))
 
 pub comment : IsFormat CommentBody comment_at comment_bytes FitsComment
 unfolding comment_at comment_bytes

@@ -81,18 +81,26 @@ rule_bytes r =
 unfoldable pub author_bytes : Author → List ℕ
 author_bytes a = text_bytes a.user ++ long_bytes a.moment
 
--- what is said of a topic; the date that it is due in seconds since 1970
-unfoldable pub topic_bytes : TopicBody → List ℕ
-topic_bytes t =
+-- what is said of a topic as a whole: its title, type, status, priority and index
+unfoldable pub topic_front_bytes : TopicBody → List ℕ
+topic_front_bytes t =
     text_bytes t.title
     ++ (optional_bytes text_bytes t.topic_type
     ++ (optional_bytes text_bytes t.topic_status
-    ++ (optional_bytes text_bytes t.priority
-    ++ (optional_bytes signed_bytes t.index
-    ++ (counted_bytes text_bytes t.labels
+    ++ (optional_bytes text_bytes t.priority ++ optional_bytes signed_bytes t.index)))
+
+-- .. and then: its labels, whom it is assigned to, its stage and description, and the date that it is due in
+-- seconds since 1970
+unfoldable pub topic_back_bytes : TopicBody → List ℕ
+topic_back_bytes t =
+    counted_bytes text_bytes t.labels
     ++ (optional_bytes text_bytes t.assigned_to
     ++ (optional_bytes text_bytes t.stage
-    ++ (optional_bytes text_bytes t.description ++ optional_bytes long_bytes t.due))))))))
+    ++ (optional_bytes text_bytes t.description ++ optional_bytes long_bytes t.due)))
+
+-- what is said of a topic
+unfoldable pub topic_bytes : TopicBody → List ℕ
+topic_bytes t = topic_front_bytes t ++ topic_back_bytes t
 
 -- what is said in a comment
 unfoldable pub comment_bytes : CommentBody → List ℕ

@@ -1,8 +1,8 @@
 //! Changes by their kinds, as they are read: what stands behind the byte of each.
 ghost use Rattle.std.specs.Prelude.{◌≡◌};
 ghost use Rattle.feed_frames.specs.SpelledEntries.{UploadsModel};
-ghost use Rattle.feed_frames.specs.inner.Readers.{Gives, Admits};
-ghost use Rattle.feed_frames.specs.inner.EntryReaders.{MakesUpload, named_elements_at, upload_at, remove_at, set_rules_at, bucket_done_at, post_topic_at, put_topic_at, delete_topic_at, post_comment_at, put_comment_at, delete_comment_at, post_view_at, delete_view_at, clash_topic_at, other_kinds, all_kinds, change_at};
+ghost use Rattle.feed_frames.specs.inner.Readers.{Gives, Admits, both_at};
+ghost use Rattle.feed_frames.specs.inner.EntryReaders.{MakesUpload, named_elements_at, source_at, topic_at, comment_at, upload_at, remove_at, set_rules_at, bucket_done_at, post_topic_at, put_topic_at, delete_topic_at, post_comment_at, put_comment_at, delete_comment_at, post_view_at, delete_view_at, clash_topic_at, other_kinds, all_kinds, change_at};
 
 use crate::field::Field;
 use crate::read_error::ReadError;
@@ -14,6 +14,7 @@ use bim_model::{Author, Element, Items, Model, Shared, Text};
 use book_history::Change;
 use bucket_grid::Cell;
 use std::alloc::Global;
+use std::mem::drop;
 
 /// The byte of an upload.
 const UPLOAD: u8 = 1;
@@ -48,6 +49,49 @@ fn take_upload(alloc: Global, unread: &mut Unread) -> Result<Change, ReadError>
     upload_of(alloc, parts.0, parts.1)
 }
 
+// Who made a change, and what the text of its request weighs.
+fn take_source(alloc: Global, unread: &mut Unread) -> Result<(Author, u64), ReadError>
+    ensures { Gives result unread.new (source_at unread.old) }
+{
+    let author = Author::read_from(alloc, unread)?;
+    let weight = unread.long()?;
+    Ok((author, weight))
+}
+
+// What is said of a topic, and by whom.
+fn take_topic(
+    alloc: Global,
+    unread: &mut Unread,
+) -> Result<(TopicBody, (Author, u64)), ReadError>
+    ensures { Gives result unread.new (both_at topic_at source_at unread.old) }
+{
+    let body = TopicBody::read_from(alloc, unread)?;
+    match take_source(alloc, unread) {
+        Ok(source) => Ok((body, source)),
+        Err(error) => {
+            drop(body);
+            Err(error)
+        }
+    }
+}
+
+// What is said in a comment, and by whom.
+fn take_comment(
+    alloc: Global,
+    unread: &mut Unread,
+) -> Result<(CommentBody, (Author, u64)), ReadError>
+    ensures { Gives result unread.new (both_at comment_at source_at unread.old) }
+{
+    let body = CommentBody::read_from(alloc, unread)?;
+    match take_source(alloc, unread) {
+        Ok(source) => Ok((body, source)),
+        Err(error) => {
+            drop(body);
+            Err(error)
+        }
+    }
+}
+
 #[tactic(auto, unfolding(crate::specs::inner::EntryReaders::remove_at))]
 fn take_remove(alloc: Global, unread: &mut Unread) -> Result<Change, ReadError>
     ensures { Gives result unread.new (remove_at unread.old) }
@@ -79,9 +123,7 @@ fn take_bucket_done(alloc: Global, unread: &mut Unread) -> Result<Change, ReadEr
 fn take_post_topic(alloc: Global, unread: &mut Unread) -> Result<Change, ReadError>
     ensures { Gives result unread.new (post_topic_at unread.old) }
 {
-    let body = TopicBody::read_from(alloc, unread)?;
-    let author = Author::read_from(alloc, unread)?;
-    let weight = unread.long()?;
+    let (body, (author, weight)) = take_topic(alloc, unread)?;
     Ok(Change::PostTopic {
         body,
         author,
@@ -94,9 +136,7 @@ fn take_put_topic(alloc: Global, unread: &mut Unread) -> Result<Change, ReadErro
     ensures { Gives result unread.new (put_topic_at unread.old) }
 {
     let topic = unread.long()?;
-    let body = TopicBody::read_from(alloc, unread)?;
-    let author = Author::read_from(alloc, unread)?;
-    let weight = unread.long()?;
+    let (body, (author, weight)) = take_topic(alloc, unread)?;
     Ok(Change::PutTopic {
         topic,
         body,
@@ -118,9 +158,7 @@ fn take_post_comment(alloc: Global, unread: &mut Unread) -> Result<Change, ReadE
     ensures { Gives result unread.new (post_comment_at unread.old) }
 {
     let topic = unread.long()?;
-    let body = CommentBody::read_from(alloc, unread)?;
-    let author = Author::read_from(alloc, unread)?;
-    let weight = unread.long()?;
+    let (body, (author, weight)) = take_comment(alloc, unread)?;
     Ok(Change::PostComment {
         topic,
         body,
@@ -135,9 +173,7 @@ fn take_put_comment(alloc: Global, unread: &mut Unread) -> Result<Change, ReadEr
 {
     let topic = unread.long()?;
     let comment = unread.long()?;
-    let body = CommentBody::read_from(alloc, unread)?;
-    let author = Author::read_from(alloc, unread)?;
-    let weight = unread.long()?;
+    let (body, (author, weight)) = take_comment(alloc, unread)?;
     Ok(Change::PutComment {
         topic,
         comment,
@@ -162,12 +198,17 @@ fn take_post_view(alloc: Global, unread: &mut Unread) -> Result<Change, ReadErro
 {
     let topic = unread.long()?;
     let body = take_view(alloc, unread)?;
-    let weight = unread.long()?;
-    Ok(Change::PostView {
-        topic,
-        body,
-        weight,
-    })
+    match unread.long() {
+        Ok(weight) => Ok(Change::PostView {
+            topic,
+            body,
+            weight,
+        }),
+        Err(error) => {
+            drop(body);
+            Err(error)
+        }
+    }
 }
 
 #[tactic(auto, unfolding(crate::specs::inner::EntryReaders::delete_view_at))]
@@ -185,8 +226,7 @@ fn take_clash_topic(alloc: Global, unread: &mut Unread) -> Result<Change, ReadEr
 {
     let version = unread.long()?;
     let place = unread.long()?;
-    let author = Author::read_from(alloc, unread)?;
-    let weight = unread.long()?;
+    let (author, weight) = take_source(alloc, unread)?;
     Ok(Change::ClashTopic {
         version,
         place,

@@ -12,6 +12,7 @@ use crate::read_error::ReadError;
 use crate::unread::Unread;
 use book_history::{Entry, Stamp};
 use std::alloc::{AllocError, Global};
+use std::mem::drop;
 
 // The call that made an entry, and its project.
 fn take_head(alloc: Global, unread: &mut Unread) -> Result<(Stamp, u32), ReadError>
@@ -53,6 +54,7 @@ fn entry_of(alloc: Global, bytes: &[u8]) -> Result<Entry, ReadError>
     if whole {
         Ok(entry)
     } else {
+        drop(entry);
         Err(ReadError::NotSpelled)
     }
 }

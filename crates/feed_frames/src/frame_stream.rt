@@ -6,6 +6,7 @@ ghost use Rattle.feed_frames.specs.inner.FrameFronts.{IsFrameAt};
 use crate::decoding::decode;
 use crate::encoding::COUNT;
 use crate::frame_error::FrameError;
+use crate::unread::are_bytes;
 use book_history::Entry;
 use std::alloc::{AllocError, Global};
 use std::marker::Model;
@@ -90,7 +91,9 @@ impl Frames {
     pub fn next(&mut self, alloc: Global) -> Result<Option<Entry>, FrameError>
         ensures { NextFrame self.old result self.new }
     {
-        let Some(payload) = whole_payload(&self.buf[self.start..]) else {
+        let rest = &self.buf[self.start..];
+        are_bytes(rest);
+        let Some(payload) = whole_payload(rest) else {
             return Ok(None);
         };
         let size = COUNT + payload.len();

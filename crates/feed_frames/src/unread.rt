@@ -18,7 +18,8 @@ impl<'a> Model for Unread<'a> {
     ghost view = { λ u. u.bytes.now };
 }
 
-fn are_bytes(bytes: &[u8])
+/// What is lent are bytes. It takes no time.
+pub(crate) fn are_bytes(bytes: &[u8])
     ensures { (i : ℕ) → slice_index bytes.now i < 256 }
 {}
 

@@ -32,6 +32,8 @@ use Rattle.book_history.specs.declared.changes.Change.TheVariants as change
 use Rattle.book_history.specs.declared.changes.Entry.{Entry}
 use Rattle.feed_frames.specs.declared.read_error.ReadError.{ReadError}
 use Rattle.feed_frames.specs.declared.read_error.ReadError.TheVariants.{NotSpelled, Memory}
+use Rattle.feed_frames.specs.declared.topic_fields.TopicFront.{TopicFront}
+use Rattle.feed_frames.specs.declared.topic_fields.TopicBack.{TopicBack}
 use Rattle.feed_frames.specs.inner.Readers.{Reader, Kinds, nothing_at, cut_at, both_at, made_at, checked_at, kind_at, no_kind, kinds_at}
 use Rattle.feed_frames.specs.inner.FieldReaders.{long_at, short_at, signed_at, text_at, truth_at, optional_at, counted_at}
 
@@ -150,32 +152,56 @@ rules_at bytes = checked_at (λ rules. nat_le (length rules) MOST_RULES) (counte
 unfoldable pub author_at : Reader Author
 author_at bytes = made_at (λ p. record { user = p.0; moment = p.1 }) (both_at text_at moment_at) bytes
 
--- what is said of a topic
-unfoldable pub topic_at : Reader TopicBody
-topic_at bytes =
+-- the first five fields of a topic
+unfoldable pub topic_front_at : Reader TopicFront
+topic_front_at bytes =
     made_at
     (λ p. record {
       title = p.0;
       topic_type = p.1.0;
       topic_status = p.1.1.0;
       priority = p.1.1.1.0;
-      index = p.1.1.1.1.0;
-      labels = p.1.1.1.1.1.0;
-      assigned_to = p.1.1.1.1.1.1.0;
-      stage = p.1.1.1.1.1.1.1.0;
-      description = p.1.1.1.1.1.1.1.1.0;
-      due = p.1.1.1.1.1.1.1.1.1;
+      index = p.1.1.1.1;
     })
     (both_at text_at
     (both_at (optional_at text_at)
-    (both_at (optional_at text_at)
-    (both_at (optional_at text_at)
-    (both_at (optional_at signed_at)
+    (both_at (optional_at text_at) (both_at (optional_at text_at) (optional_at signed_at)))))
+    bytes
+
+-- .. and the last five
+unfoldable pub topic_back_at : Reader TopicBack
+topic_back_at bytes =
+    made_at
+    (λ p. record {
+      labels = p.0;
+      assigned_to = p.1.0;
+      stage = p.1.1.0;
+      description = p.1.1.1.0;
+      due = p.1.1.1.1;
+    })
     (both_at (counted_at text_at)
     (both_at (optional_at text_at)
-    (both_at (optional_at text_at)
-    (both_at (optional_at text_at) (optional_at moment_at))))))))))
+    (both_at (optional_at text_at) (both_at (optional_at text_at) (optional_at moment_at)))))
     bytes
+
+-- a topic of these fields
+abbrev pub topic_by : (TopicFront × TopicBack) → TopicBody
+topic_by p = record {
+  title = p.0.title;
+  topic_type = p.0.topic_type;
+  topic_status = p.0.topic_status;
+  priority = p.0.priority;
+  index = p.0.index;
+  labels = p.1.labels;
+  assigned_to = p.1.assigned_to;
+  stage = p.1.stage;
+  description = p.1.description;
+  due = p.1.due;
+}
+
+-- what is said of a topic
+unfoldable pub topic_at : Reader TopicBody
+topic_at bytes = made_at topic_by (both_at topic_front_at topic_back_at) bytes
 
 -- what is said in a comment
 unfoldable pub comment_at : Reader CommentBody

@@ -1,0 +1,28 @@
+use Rattle.std.proofs.Common.{◌≡◌, ℕ, ◌+◌, ◌-◌, ◌^◌, min, List, drop, length, Option, IfSome, refl, sym, ap, subst, ◌∙◌, arith}
+use Rattle.book_history.specs.declared.changes.Entry.{Entry}
+use Rattle.feed_frames.specs.EntryBytes.{payload, frame}
+use Rattle.feed_frames.specs.SpelledEntries.{IsEntry}
+use Rattle.feed_frames.specs.FrameStreams.{Unanswered}
+use Rattle.feed_frames.specs.inner.FrameFronts.{IsFrameAt}
+use Rattle.feed_frames.proofs.Formats.{IsBytes}
+use Rattle.feed_frames.proofs.FrameFronts.{IsWhole, is_whole, behind_whole}
+use Rattle.feed_frames.proofs.frame_stream.Frames.next.Goals as goal
+
+pub returns-in-Some-2 : goal.returns-in-Some-2
+returns-in-Some-2 c =
+    let items = c.self.inside.buf.items in
+    let start = c.self.inside.start in
+    let inside = c.in-Some.payload.now in
+    let e = c.in-Some-2.entry in
+    let same = ap (drop start) c.deref-rest.ensures.value in
+    let there = subst (λ (l : List ℕ). IsFrameAt l inside) same c.in-Some.ensures in
+    let fits = subst (λ (l : List ℕ). IsBytes l) same c.are_bytes.ensures in
+    let found = subst (λ (o : Option Entry). IfSome o (λ (x : Entry). IsEntry x × (payload x ≡ inside))) c.in-Some-2.is c.in_ok-entry.ensures.found in
+    let w : IsWhole (drop start items) e (8 + length inside) = is_whole (drop start items) inside e (8 + length inside) fits there found.1 refl in
+    let at = ap (λ (u : Unanswered). u.at) c.self.view_is in
+    let size = w.size in
+    let sum : c.self.inside.at + (8 + length inside) ≡ c.args.self.now.at + length (frame e) = omega (arith, at, size) in (
+      found.0,
+      sym (ap (λ (u : Unanswered). u.rest) c.self.view_is) ∙ behind_whole items start (8 + length inside) e w,
+      c.saturating_add-self-inside.ensures ∙ ap (λ (n : ℕ). min n (2 ^ 64 - 1)) sum,
+    )
