@@ -32,8 +32,8 @@ returns c =
     let h = subst HasParts c.get.ensures c.know_grid.ensures in
     let content = c.self.invariant.0 ∙ ap (λ (w : VersionState). w.content) c.self.view_is in (
       subst (λ (x : Version). is_among (buckets_of x) c.args.cell ≡ true) content
-      (among_of v.grid h v.progress c.self.invariant.1 c.args.cell (c.is_bucket.ensures.0 c.if-not-is_bucket.false)),
+          (among_of v.grid h v.progress c.self.invariant.1 c.args.cell (c.is_bucket.ensures.0 c.if-not-is_bucket.false)),
       c.of.ensures
-      ∙ ap (λ (x : Version). order_at c.args.project c.args.version x c.args.cell)
-      (ap (λ (g : GridValue). g.version) c.in_ok-share.ensures ∙ content),
+          ∙ ap (λ (x : Version). order_at c.args.project c.args.version x c.args.cell)
+          (ap (λ (g : GridValue). g.version) c.in_ok-share.ensures ∙ content),
     )
