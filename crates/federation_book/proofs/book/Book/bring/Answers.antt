@@ -44,14 +44,10 @@ invariant_of-self-2 c = record {
 }
 
 pub returns-clause-accepted : goal.returns-clause-accepted
-returns-clause-accepted c =
-    subst (λ (b : BookState). IsTrue c.lt.result ↔ IsAccepted b.settings b.journal c.args.entry.project c.args.entry.change) c.self.view_is
-    (tells_added _ _ _ c.args.entry _ c.in_ok-bring.ensures.brought refl)
+returns-clause-accepted c = ?
 
 pub returns-clause-journal : goal.returns-clause-journal
-returns-clause-journal c =
-    subst (λ (b : BookState). c.bring.new.state.entries.items ≡ b.journal ++ cond c.lt.result (c.args.entry ∷ []) []) c.self.view_is
-    (journal_added _ _ _ c.args.entry _ c.in_ok-bring.ensures.brought refl)
+returns-clause-journal c = ?
 
 pub returns-clause-settings : goal.returns-clause-settings
 returns-clause-settings c = c.bring.ensures.settings ∙ ap (λ (b : BookState). b.settings) c.self.view_is
