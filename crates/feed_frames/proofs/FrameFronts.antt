@@ -1,13 +1,12 @@
 -- The frame at the front of a stream, and the bytes behind it.
-use Rattle.std.proofs.Common.{◌≡◌, ◌≢◌, ℕ, ◌+◌, ◌-◌, ◌<◌, ◌≤◌, List, ◌++◌, length, take, drop, refl, sym, ap, subst, ◌∙◌, append_assoc, arith}
-use Rattle.std.specs.Int.{w64, to_be_bytes, from_be_bytes}
-use Rattle.std.proofs.lemmas.List.{take-append-drop, take_at, drop_at, drop-drop, length-append, length-take, length-drop}
+use Rattle.std.proofs.Common.{◌≡◌, ℕ, ◌+◌, ◌-◌, ◌≤◌, List, ◌++◌, length, take, drop, refl, sym, ap, subst, ◌∙◌, append_assoc, arith}
+use Rattle.std.proofs.Math.Seq.{take-length}
+use Rattle.std.proofs.lemmas.List.{take-append-drop, drop_at, drop-drop, length-append, length-take, length-drop}
 use Rattle.std.proofs.lemmas.Nat.{be_bytes_8}
 use Rattle.book_history.specs.declared.changes.Entry.{Entry}
 use Rattle.feed_frames.specs.FieldBytes.{long_bytes}
 use Rattle.feed_frames.specs.EntryBytes.{payload, frame}
-use Rattle.feed_frames.specs.SpelledEntries.{IsEntry}
-use Rattle.feed_frames.specs.FrameStreams.{count_at, IsBadFrame}
+use Rattle.feed_frames.specs.FrameStreams.{count_at}
 use Rattle.feed_frames.specs.inner.FrameFronts.{IsFrameAt}
 use Rattle.feed_frames.proofs.Formats.{IsBytes, IsBytes-front}
 
@@ -57,10 +56,19 @@ stands_before bytes inside e fits f same =
     ∙ ap (λ (l : List ℕ). long_bytes (length (payload e)) ++ (payload e ++ l)) behind
     ∙ sym (append_assoc (long_bytes (length (payload e))) (payload e) (drop (8 + length inside) bytes))
 
+-- all bytes from a place on
+rest_is : (bytes : List ℕ) (start : ℕ) → take (length bytes - start) (drop start bytes) ≡ drop start bytes
+rest_is bytes start =
+    ap (λ (n : ℕ). take n (drop start bytes)) (sym (length-drop start bytes)) ∙ take-length (drop start bytes)
+
+pub at_rest : (P : List ℕ → Type 0) (bytes items : List ℕ) (start : ℕ) → bytes ≡ items → P (take (length bytes - start) (drop start bytes)) → P (drop start items)
+at_rest P bytes items start same h =
+    subst (λ (l : List ℕ). P (drop start l)) same (subst P (rest_is bytes start) h)
+
 -- the frame of an entry stands there, of so many bytes
 pub record IsWhole (bytes : List ℕ) (e : Entry) (size : ℕ) : Type 0 where
   pub first : bytes ≡ frame e ++ drop size bytes
-  pub size : size ≡ length (frame e)
+  pub long : size ≡ length (frame e)
 
 -- the entry that stands there
 pub is_whole : (bytes inside : List ℕ) (e : Entry) (size : ℕ) → IsBytes bytes → IsFrameAt bytes inside → payload e ≡ inside → size ≡ 8 + length inside → IsWhole bytes e size
@@ -68,16 +76,8 @@ is_whole bytes inside e size fits f same is =
     let long : length (payload e) ≡ length inside = ap length same in
     record {
       first = stands_before bytes inside e fits f same ∙ ap (λ (n : ℕ). frame e ++ drop n bytes) (sym is);
-      size = omega (arith, frame_length e, long, is);
+      long = omega (arith, frame_length e, long, is);
     }
-
--- a frame whose payload spells no entry
-pub is_bad : (bytes inside : List ℕ) → IsFrameAt bytes inside → ((e : Entry) → IsEntry e → payload e ≢ inside) → IsBadFrame bytes
-is_bad bytes inside f none = record {
-  counted = f.0;
-  whole = f.1;
-  none = λ e good same. none e good (same ∙ sym f.2);
-}
 
 -- what stands behind a frame
 pub behind_whole : (items : List ℕ) (start size : ℕ) (e : Entry) → IsWhole (drop start items) e size → drop start items ≡ frame e ++ drop (start + size) items

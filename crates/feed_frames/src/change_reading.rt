@@ -59,10 +59,7 @@ fn take_source(alloc: Global, unread: &mut Unread) -> Result<(Author, u64), Read
 }
 
 // What is said of a topic, and by whom.
-fn take_topic(
-    alloc: Global,
-    unread: &mut Unread,
-) -> Result<(TopicBody, (Author, u64)), ReadError>
+fn take_topic(alloc: Global, unread: &mut Unread) -> Result<(TopicBody, (Author, u64)), ReadError>
     ensures { Gives result unread.new (both_at topic_at source_at unread.old) }
 {
     let body = TopicBody::read_from(alloc, unread)?;

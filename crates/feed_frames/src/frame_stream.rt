@@ -91,9 +91,8 @@ impl Frames {
     pub fn next(&mut self, alloc: Global) -> Result<Option<Entry>, FrameError>
         ensures { NextFrame self.old result self.new }
     {
-        let rest = &self.buf[self.start..];
-        are_bytes(rest);
-        let Some(payload) = whole_payload(rest) else {
+        are_bytes(&self.buf[self.start..]);
+        let Some(payload) = whole_payload(&self.buf[self.start..]) else {
             return Ok(None);
         };
         let size = COUNT + payload.len();

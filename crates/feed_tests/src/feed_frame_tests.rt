@@ -7,7 +7,7 @@ use std::process::Abort;
 use std::test::Fail;
 
 /// A frame of each kind of change, in the order of the kinds.
-const FRAMES: [&str; 13] = [
+static FRAMES: [&str; 13] = [
     "00000000000000940000000000000100000100000000000000000001000000010100000000000000016d00000000000000014a69746b596c754f36616346784e5f6d44595f753231000000000000000749464357414c4c00000000000000000100000000000000087ff09f98805920200000000000000001fffffc78ffffffff00000001ffffe04000000000000000f8ff85ee00ff85ee00000011eb",
     "0000000000000021000000000000000000000000000000000000000000000000020000000000000000",
     "0000000000000050000000000001000000000002ffffffffffffffff0000000703000000000000000200000100000101000000000000000749464357414c4c00010100000000000000000000000000010000000000000100",
@@ -24,7 +24,7 @@ const FRAMES: [&str; 13] = [
 ];
 
 /// Payloads that spell no entry. The last says that it has 2^64 - 1 labels, and ends there.
-const BAD_PAYLOADS: [&str; 13] = [
+static BAD_PAYLOADS: [&str; 13] = [
     "000000000001000000000002000000000000000100000000010000000000000001006e6e6e6e6e6e6e6e6e6e6e6e6e6e6e6e6e6e6e6e6e6e6e6e6e6e6e6e6e6e6e6e6e6e6e6e6e6e6e6e6e6e6e6e6e6e6e6e6e6e6e6e6e6e6e6e6e6e6e6e6e6e6e0000000000000000",
     "fffffffffffffffefffffffefffffffffffffffe000100000200000000000000026d",
     "00000000000001000001000000000000000000ff000000000600000000000000010000000000000000022d2d0027205a00000001000000000000000000000000010000000000000008390af09f988000200000000000000000000009616e6f6e796d6f757300000000000000000000000000000100",
@@ -77,9 +77,9 @@ fn comes_back(alloc: Global, frame: &[u8]) -> Result<bool, AllocError> {
 #[test]
 fn frames_come_back(rt: HostRuntime) -> Result<(), Fail> {
     let alloc = rt.alloc();
-    for text in FRAMES {
-        let frame = bytes_of(alloc, text)?;
-        assert!(rt; comes_back(alloc, frame.as_slice())?, "{text}");
+    for text in FRAMES.iter() {
+        let frame = bytes_of(alloc, *text)?;
+        assert!(rt; comes_back(alloc, frame.as_slice())?);
     }
     Ok(())
 }
@@ -95,9 +95,9 @@ fn is_entry(alloc: Global, payload: &[u8]) -> Result<bool, AllocError> {
 #[test]
 fn other_payloads_spell_none(rt: HostRuntime) -> Result<(), Fail> {
     let alloc = rt.alloc();
-    for text in BAD_PAYLOADS {
-        let payload = bytes_of(alloc, text)?;
-        assert!(rt; !is_entry(alloc, payload.as_slice())?, "{text}");
+    for text in BAD_PAYLOADS.iter() {
+        let payload = bytes_of(alloc, *text)?;
+        assert!(rt; !is_entry(alloc, payload.as_slice())?);
     }
     Ok(())
 }
@@ -114,16 +114,20 @@ fn answered(alloc: Global, frames: &mut Frames) -> (u32, Option<FrameError>) {
     (1_000, None)
 }
 
-// How many entries a stream has, in pieces of this size, and the place of its bad frame.
-fn told(alloc: Global, stream: &[u8], size: usize) -> Result<(u32, Option<FrameError>), AllocError>
+// How many entries come of a stream in pieces of this size, and the place of its bad frame.
+fn fed(
+    alloc: Global,
+    frames: &mut Frames,
+    stream: &[u8],
+    size: usize,
+) -> Result<(u32, Option<FrameError>), AllocError>
     requires { 0 < size }
 {
-    let mut frames = Frames::new(alloc);
-    let mut whole = 0;
+    let mut whole = 0_u32;
     for piece in stream.chunks(size) {
         frames.feed(piece)?;
-        let (count, error) = answered(alloc, &mut frames);
-        whole += count;
+        let (count, error) = answered(alloc, frames);
+        whole = whole.saturating_add(count);
         if error.is_some() {
             return Ok((whole, error));
         }
@@ -131,11 +135,21 @@ fn told(alloc: Global, stream: &[u8], size: usize) -> Result<(u32, Option<FrameE
     Ok((whole, None))
 }
 
+// The same of a stream from its first byte.
+fn told(alloc: Global, stream: &[u8], size: usize) -> Result<(u32, Option<FrameError>), AllocError>
+    requires { 0 < size }
+{
+    let mut frames = Frames::new(alloc);
+    let answer = fed(alloc, &mut frames, stream, size);
+    drop(frames);
+    answer
+}
+
 // The frames of the table one after another, and then these bytes.
 fn stream_of(alloc: Global, behind: &[u8]) -> Result<Vec<u8>, AllocError> {
     let mut stream = Vec::new(alloc);
-    for text in FRAMES {
-        let frame = bytes_of(alloc, text)?;
+    for text in FRAMES.iter() {
+        let frame = bytes_of(alloc, *text)?;
         stream.extend_from_slice(frame.as_slice())?;
     }
     stream.extend_from_slice(behind)?;
@@ -151,7 +165,7 @@ fn streams_are_cut_anywhere(rt: HostRuntime) -> Result<(), Fail> {
     let long = stream_of(alloc, &[255; 20])?;
     assert!(rt; matches!(told(alloc, long.as_slice(), 1)?, (13, None)));
     let bad = stream_of(alloc, &[0; 8])?;
-    let at = (bad.len() - 8) as u64;
+    let at = bad.len().saturating_sub(8) as u64;
     for size in [1, 50, 5_000] {
         let (count, error) = told(alloc, bad.as_slice(), size)?;
         assert_eq!(rt; count, 13);
