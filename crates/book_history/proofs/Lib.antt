@@ -11,3 +11,6 @@ pub mod Live
 pub mod Given
 pub mod Histories
 pub mod Staying
+pub mod Made
+pub mod Among
+pub mod Again

@@ -1,19 +1,25 @@
 //! The book.
-ghost use Rattle.std.specs.Prelude.{◌≡◌, ◌≤◌, ◌+◌, ◌++◌, [], IfOk, OnOk, OnErr};
+ghost use Rattle.std.specs.Prelude.{◌≡◌, ◌↔◌, ◌≤◌, ◌+◌, ◌++◌, [], ◌∷◌, if◌then◌else◌, IsTrue, IsSome, IfOk, OnOk, OnErr};
 ghost use Rattle.book_history.specs.declared.limits.TheConstants.{MOST_PROJECTS};
 ghost use Rattle.book_history.specs.Settings.{IsWithinStated};
 ghost use Rattle.book_history.specs.History.{left_all, horizon_of, IsBefore, IsHistory};
 ghost use Rattle.book_history.specs.Requests.{ahead, without_turn, reply_of, added_by};
 ghost use Rattle.book_history.specs.Legal.{IsLegal};
-ghost use Rattle.federation_book.specs.KeptProjects.{IsKept, settings_of};
+ghost use Rattle.book_history.specs.HistoryLaws.{IsWhole};
+ghost use Rattle.book_history.specs.MadeEntries.{IsBuilt, AreMade};
+ghost use Rattle.book_history.specs.AcceptedChanges.{request_for, IsAccepted, IsWorkOf};
 
+use crate::applying::bring;
 use crate::asking::act_on;
 use crate::project::Project;
 use crate::state::State;
+use crate::working::work_of;
+use bim_model::know;
 use book_history::{
     BookCall, BookFault, BookReply, BookRequest, Entry, Limits, MOST_PROJECTS, ReplyBody, Settings,
-    Stamp,
+    Stamp, WorkOrder,
 };
+use bucket_grid::{Cell, Grid};
 use std::alloc::{AllocError, Global};
 
 // Why a call is refused for the turn that it gives, at its own turn.
@@ -40,13 +46,34 @@ pub struct Book {
 
 impl std::marker::Model for Book {
     ghost use Rattle.book_history.specs.Requests.{BookState};
-    ghost use Rattle.federation_book.specs.KeptProjects.{IsKept, settings_of};
+    ghost use Rattle.federation_book.specs.KeptProjects.{IsBook, settings_of};
 
     ghost Value = { BookState };
 
     ghost view = { λ b. record { settings = settings_of b.state; journal = b.state.entries.items } };
 
-    ghost invariant = { λ b. IsKept b.state };
+    ghost invariant = { λ b. IsBook b.state };
+}
+
+// What is known of every grid: all that it holds is that of its version.
+fn know_whole(grid: &Grid)
+    ensures { IsWhole grid.now }
+{
+    know(grid.models());
+    know(grid.places());
+    know(grid.boxes());
+    know(grid.buckets());
+    know(grid.memberships());
+}
+
+// What is known of every request.
+fn know_built(request: &BookRequest)
+    ensures { IsBuilt request.now }
+{
+    match request {
+        BookRequest::Finish { set } => know_whole(set.get().work().grid.get()),
+        _ => {}
+    }
 }
 
 impl Book {
@@ -74,10 +101,11 @@ impl Book {
         })
     }
 
-    /// The accepted changes by rising turn, lent.
+    /// The accepted changes by rising turn, lent. Each was made by a request at those before it.
     pub fn journal(&self) -> &[Entry]
         ensures entries { result.now ≡ self.now.journal }
         ensures rising { IsHistory result.now }
+        ensures made { AreMade self.now.settings result.now }
     {
         self.state.entries.as_slice()
     }
@@ -97,6 +125,19 @@ impl Book {
         ensures { result ≡ left_all self.now.settings.projects self.now.journal }
     {
         self.state.left_all()
+    }
+
+    /// The bucket of a cell of a live version, to be checked, whether it is done or not. None exactly where the version
+    /// isn't one of a project's last sixteen, or the cell is no bucket of it.
+    pub fn work_of(
+        &self,
+        project: u32,
+        version: u64,
+        cell: Cell,
+    ) -> Result<Option<WorkOrder>, AllocError>
+        ensures { IfOk result (IsWorkOf self.now.settings self.now.journal project version cell) }
+    {
+        work_of(&self.state, project, version, cell)
     }
 
     /// Answers a call at a turn above those of the journal, and adds its entry if it accepts a change. A call that
@@ -147,10 +188,30 @@ impl Book {
         ensures after { IsBefore (stamp.turn + 1) self.new.journal }
         ensures err { OnErr result (self.new ≡ self.old) }
     {
+        know_built(&request);
         let body = act_on(&mut self.state, stamp, request)?;
         Ok(BookReply {
             body,
             horizon: self.state.horizon(),
         })
+    }
+
+    /// Brings an entry that another book made, of a turn above those of the journal, and tells whether it was added:
+    /// it is where a request for its change would be accepted here. An `Err` leaves the book as it was. The condition
+    /// is that the entry isn't of a bucket that is done: `act` takes the bucket's clashes.
+    pub fn bring(&mut self, entry: Entry) -> Result<bool, AllocError>
+        requires after { IsBefore entry.stamp.turn self.old.journal }
+        requires asked { IsSome (request_for entry.project entry.change) }
+        ensures accepted { IfOk result (λ added. IsTrue added
+            ↔ IsAccepted self.old.settings self.old.journal entry.project entry.change) }
+        ensures journal { IfOk result (λ added. self.new.journal
+            ≡ self.old.journal ++ (if added then entry ∷ [] else [])) }
+        ensures settings { self.new.settings ≡ self.old.settings }
+        ensures after { IsBefore (entry.stamp.turn + 1) self.new.journal }
+        ensures err { OnErr result (self.new ≡ self.old) }
+    {
+        let before = self.state.entries.len();
+        bring(&mut self.state, entry)?;
+        Ok(self.state.entries.len() > before)
     }
 }
