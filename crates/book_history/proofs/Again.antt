@@ -37,8 +37,8 @@ use Rattle.book_history.specs.Refusals.{first_of, project_of, wanted_in, dropped
 use Rattle.book_history.specs.Requests.{Outcome, Refusal, Answer, Accepted, refused_or, unless, found, in_project, in_topic, in_comment, in_view, with_body, changed, noted, removed, clash_noted, version_read, clashes_read, topic_told, comment_told, view_told, order_for, all_orders, finished, entry_of, entry_by, outcome_of}
 use Rattle.book_history.specs.Legal.{IsGiven, IsLegal}
 use Rattle.book_history.specs.HistoryLaws.{IsWhole}
-use Rattle.book_history.specs.MadeEntries.{IsBuilt}
-use Rattle.book_history.specs.AcceptedChanges.{comment_sent, request_for, EndsBucket, IsAccepted, IsBrought, MadeIsAccepted}
+use Rattle.book_history.specs.MadeEntries.{IsBuilt, AreMadeAfter}
+use Rattle.book_history.specs.AcceptedChanges.{comment_sent, request_for, EndsBucket, IsAccepted, IsBrought, MadeIsAccepted, AreAcceptedAfter, MadeAreAccepted}
 use Rattle.book_history.proofs.OneGrid.{HasParts}
 use Rattle.book_history.proofs.Among.{bucket_among}
 
@@ -502,3 +502,10 @@ brought_by s h after e r is added = by (outcome_of s h r) refl
 pub made_is_accepted : MadeIsAccepted
 made_is_accepted s h e made =
     asked s h e.project e.change made.request made.built made.legal made.becomes
+
+accepted_after : (s : Settings) (h es : List Entry) → AreMadeAfter s h es → AreAcceptedAfter s h es
+accepted_after s h [] made = tt
+accepted_after s h (e ∷ es) made = (made_is_accepted s h e made.0, accepted_after s (h ++ e ∷ []) es made.1)
+
+pub made_are_accepted : MadeAreAccepted
+made_are_accepted s es made = accepted_after s [] es made

@@ -17,7 +17,7 @@ use Rattle.book_history.specs.Buckets.{buckets_of, is_among}
 use Rattle.book_history.specs.Versions.{is_done}
 use Rattle.book_history.specs.History.{newest_of, version_of, content_of}
 use Rattle.book_history.specs.Requests.{Accepted, order_at, outcome_of}
-use Rattle.book_history.specs.MadeEntries.{IsMadeAt}
+use Rattle.book_history.specs.MadeEntries.{IsMadeAt, AreMade}
 
 -- a comment as it is sent whose body is kept so in the project
 abbrev pub comment_sent : ℕ → CommentBody → CommentIn
@@ -100,3 +100,15 @@ abbrev pub MadeIsAccepted : Type 0
 MadeIsAccepted =
     (settings : Settings) (history : List Entry) (entry : Entry) → IsMadeAt settings history entry
     → IsAccepted settings history entry.project entry.change
+
+-- after a history: each of these entries is accepted at that history and the entries before it
+abbrev pub AreAcceptedAfter : Settings → List Entry → List Entry → Type 0
+AreAcceptedAfter settings history [] = Unit {0}
+AreAcceptedAfter settings history (e ∷ es) =
+    IsAccepted settings history e.project e.change × AreAcceptedAfter settings (history ++ e ∷ []) es
+
+-- the entries of a history that were made so are accepted one after another from the first on
+abbrev pub MadeAreAccepted : Type 0
+MadeAreAccepted =
+    (settings : Settings) (entries : List Entry) → AreMade settings entries
+    → AreAcceptedAfter settings [] entries
