@@ -202,7 +202,7 @@ module _ (s : Settings) (h : List Entry) (n : ℕ) (c : Change) where
       (for_ a.0 (change.ClashTopic v place author weight) p ∙ ap (λ (i : ℕ). Some (request.ClashTopic i (Number v) place author weight)) (at_project id a.0 a.1))
 
   -- a bucket that is brought was to be checked
-  finish_again : (set : SetValue) → IsWhole set.work.grid → IsGiven s h set.work → finished h set ≡ Accepted n c → IsAccepted s h n c
+  pub finish_again : (set : SetValue) → IsWhole set.work.grid → IsGiven s h set.work → finished h set ≡ Accepted n c → IsAccepted s h n c
   finish_again set whole g e =
       let w = set.work in
       let project = state_of w.project h in

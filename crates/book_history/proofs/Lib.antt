@@ -14,3 +14,4 @@ pub mod Staying
 pub mod Made
 pub mod Among
 pub mod Again
+pub mod BucketsAgain

@@ -1,5 +1,5 @@
 -- Changes that another book of the same history accepted, and when they are accepted again.
-use Rattle.std.specs.Prelude.{◌≡◌, ℕ, ◌+◌, ◌<◌, ◌≤◌, List, [], ◌∷◌, ◌++◌, ◌⊎◌, true, false, Option, Some, None, option_map, MatchOption}
+use Rattle.std.specs.Prelude.{◌≡◌, ℕ, ◌+◌, ◌<◌, ◌≤◌, List, [], ◌∷◌, ◌++◌, ◌⊎◌, Bool, true, false, Option, Some, None, option_map, MatchOption}
 use Rattle.bim_model.specs.Identifiers.{identifier}
 use Rattle.bucket_grid.specs.declared.cell.Cell.{Cell}
 use Rattle.bcf_topics.specs.declared.comment.CommentBody.{CommentBody}
@@ -94,6 +94,13 @@ abbrev pub IsBrought : Settings → List Entry → Entry → List Entry → Type
 IsBrought settings history entry after =
     (IsAccepted settings history entry.project entry.change × (after ≡ history ++ entry ∷ []))
     ⊎ ((IsAccepted settings history entry.project entry.change → ⊥) × (after ≡ history))
+
+-- .. and whether it was added is told
+abbrev pub Brings : Settings → List Entry → Entry → Bool → List Entry → Type 0
+Brings settings history entry true after =
+    IsAccepted settings history entry.project entry.change × (after ≡ history ++ entry ∷ [])
+Brings settings history entry false after =
+    (IsAccepted settings history entry.project entry.change → ⊥) × (after ≡ history)
 
 -- an entry that was made at a history is accepted there
 abbrev pub MadeIsAccepted : Type 0

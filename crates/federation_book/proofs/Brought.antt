@@ -1,11 +1,12 @@
 -- Entries of another book that are brought.
-use Rattle.std.proofs.Common.{◌≡◌, ◌<◌, ◌≤◌, ◌+◌, ◌⊎◌, inl, inr, ℕ, Bool, true, false, ltb, cond, ◌↔◌, MatchOption, IsTrue, IsSome, List, [], ◌∷◌, ◌++◌, length, Option, Some, None, refl, sym, ◌∙◌, ap, subst, arith, append-nil}
-use Rattle.std.proofs.lemmas.Bool.{lt-ltb, le-ltb, false≢true}
+use Rattle.std.proofs.Common.{◌≡◌, ◌<◌, ◌≤◌, ◌+◌, ◌⊎◌, inl, inr, ℕ, Bool, true, false, ltb, MatchOption, IsSome, List, [], ◌∷◌, ◌++◌, length, Option, Some, None, refl, sym, ◌∙◌, ap, subst, arith}
+use Rattle.std.proofs.lemmas.Bool.{lt-ltb, le-ltb}
 use Rattle.std.proofs.lemmas.List.{length-append}
 use Rattle.std.proofs.lemmas.List.Elements.{All-cons, All-append}
 use Rattle.std.proofs.lemmas.Option.{same_Some}
 use Rattle.bim_model.specs.declared.rules.Rule.{Rule}
 use Rattle.book_turn.specs.declared.object.Stamp.{Stamp}
+use Rattle.bucket_check.specs.ClashSets.{SetValue}
 use Rattle.book_turn.specs.Entries.{listed}
 use Rattle.book_history.specs.declared.changes.Change.{Change}
 use Rattle.book_history.specs.declared.changes.Change.TheVariants as change
@@ -13,13 +14,14 @@ use Rattle.book_history.specs.declared.changes.Entry.{Entry}
 use Rattle.book_history.specs.declared.limits.Settings.{Settings}
 use Rattle.book_history.specs.declared.requests.BookRequest.{BookRequest}
 use Rattle.book_history.specs.declared.requests.BookRequest.TheVariants as request
-use Rattle.book_history.specs.Requests.{Accepted, outcome_of}
+use Rattle.book_history.specs.Requests.{Accepted, outcome_of, finished, entry_by}
 use Rattle.book_history.specs.History.{IsBefore}
-use Rattle.book_history.specs.Legal.{IsLegal}
+use Rattle.book_history.specs.Legal.{IsLegal, IsGiven}
+use Rattle.book_history.specs.HistoryLaws.{IsWhole}
 use Rattle.book_history.specs.MadeEntries.{IsBuilt, IsMadeAt, AreMade}
-use Rattle.book_history.specs.AcceptedChanges.{request_for, EndsBucket, IsAccepted, IsBrought}
+use Rattle.book_history.specs.AcceptedChanges.{request_for, EndsBucket, IsAccepted, IsBrought, Brings}
 use Rattle.book_history.proofs.Histories.{none_before}
-use Rattle.book_history.proofs.Made.{made_more}
+use Rattle.book_history.proofs.Made.{made_more, made_after}
 use Rattle.federation_book.specs.inner.AskedChanges.{IsAskedWhole}
 use Rattle.federation_book.proofs.Acting.{later}
 
@@ -68,19 +70,12 @@ is_added s h k e (inr p) =
     inr (p.0, le-ltb (length h) (length k) (omega (arith, same)), p.1)
 
 -- the entries are longer exactly where the entry was added
-pub tells_added : (s : Settings) (h k : List Entry) (e : Entry) (b : Bool) → IsBrought s h e k → b ≡ ltb (length h) (length k) → IsTrue b ↔ IsAccepted s h e.project e.change
-tells_added s h k e b brought is = by (is_added s h k e brought)
+pub tells_brought : (s : Settings) (h k : List Entry) (e : Entry) (b : Bool) → IsBrought s h e k → b ≡ ltb (length h) (length k) → Brings s h e b k
+tells_brought s h k e b brought is = by (is_added s h k e brought)
   where
-    by : (IsAccepted s h e.project e.change × (ltb (length h) (length k) ≡ true) × (k ≡ h ++ e ∷ [])) ⊎ ((IsAccepted s h e.project e.change → ⊥) × (ltb (length h) (length k) ≡ false) × (k ≡ h)) → IsTrue b ↔ IsAccepted s h e.project e.change
-    by (inl p) = (λ _. p.0, λ _. is ∙ p.1)
-    by (inr p) = (λ t. absurd (false≢true (sym (is ∙ p.1) ∙ t)), λ a. absurd (p.0 a))
-
-pub journal_added : (s : Settings) (h k : List Entry) (e : Entry) (b : Bool) → IsBrought s h e k → b ≡ ltb (length h) (length k) → k ≡ h ++ cond b (e ∷ []) []
-journal_added s h k e b brought is = by (is_added s h k e brought)
-  where
-    by : (IsAccepted s h e.project e.change × (ltb (length h) (length k) ≡ true) × (k ≡ h ++ e ∷ [])) ⊎ ((IsAccepted s h e.project e.change → ⊥) × (ltb (length h) (length k) ≡ false) × (k ≡ h)) → k ≡ h ++ cond b (e ∷ []) []
-    by (inl p) = p.2 ∙ ap (λ (t : Bool). h ++ cond t (e ∷ []) []) (sym (is ∙ p.1))
-    by (inr p) = p.2 ∙ sym (append-nil h) ∙ ap (λ (t : Bool). h ++ cond t (e ∷ []) []) (sym (is ∙ p.1))
+    by : (IsAccepted s h e.project e.change × (ltb (length h) (length k) ≡ true) × (k ≡ h ++ e ∷ [])) ⊎ ((IsAccepted s h e.project e.change → ⊥) × (ltb (length h) (length k) ≡ false) × (k ≡ h)) → Brings s h e b k
+    by (inl p) = subst (λ (t : Bool). Brings s h e t k) (sym (is ∙ p.1)) (p.0, p.2)
+    by (inr p) = subst (λ (t : Bool). Brings s h e t k) (sym (is ∙ p.1)) (p.0, p.2)
 
 -- .. and the history goes on as one of entries that requests made
 made_of : (s : Settings) (h : List Entry) (e : Entry) (o : Option BookRequest) → request_for e.project e.change ≡ o → IsSome o → IsAccepted s h e.project e.change → IsMadeAt s h e
@@ -99,6 +94,11 @@ pub made_brought : (s : Settings) (h k : List Entry) (e : Entry) → IsSome (req
 made_brought s h k e some made (inl p) =
     subst (AreMade s) (sym p.1) (made_more s [] h e made (made_of s h e (request_for e.project e.change) refl some p.0))
 made_brought s h k e some made (inr p) = subst (AreMade s) (sym p.1) made
+
+-- .. also where the entry is of a bucket whose clashes were brought
+pub made_bucket : (s : Settings) (h k : List Entry) (stamp : Stamp) (set : SetValue) → IsWhole set.work.grid → IsGiven s h set.work → AreMade s h → k ≡ h ++ listed (entry_by stamp (finished h set)) → AreMade s k
+made_bucket s h k stamp set whole given made added =
+    subst (AreMade s) (sym added) (made_after s h stamp (request.Finish set) made whole given)
 
 -- all entries are of turns up to that of the entry that was brought
 pub after_brought : (s : Settings) (h k : List Entry) (e : Entry) → IsBefore e.stamp.turn h → IsBrought s h e k → IsBefore (e.stamp.turn + 1) k

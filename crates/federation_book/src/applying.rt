@@ -3,8 +3,10 @@ ghost use Rattle.std.specs.Prelude.{◌≡◌, option_map, IsSome, OnOk, OnErr};
 ghost use Rattle.bim_model.specs.Identifiers.{identifier};
 ghost use Rattle.book_history.specs.declared.changes.Change.{Change};
 ghost use Rattle.book_history.specs.History.{IsBefore};
+ghost use Rattle.book_history.specs.MadeEntries.{AreMade};
 ghost use Rattle.book_history.specs.AcceptedChanges.{comment_sent, request_for, IsBrought};
 ghost use Rattle.book_history.specs.Requests.{entry_of};
+ghost use Rattle.book_history.specs.Legal.{IsGiven};
 ghost use Rattle.federation_book.specs.KeptProjects.{IsKept, settings_of};
 ghost use Rattle.federation_book.specs.inner.AskedChanges.{IsAskedWhole};
 
@@ -12,9 +14,12 @@ use crate::asking::act_on;
 use crate::making::set_shared_rules;
 use crate::project_reads::project_of;
 use crate::state::State;
+use crate::version::know_whole;
+use crate::working::finish;
 use bcf_topics::{CommentBody, CommentIn};
 use bim_model::{Rules, Shared, id_of};
 use book_history::{BookRequest, Change, Entry, Stamp, Wanted};
+use bucket_check::BucketSet;
 use std::alloc::AllocError;
 use std::mem::drop;
 
@@ -205,4 +210,25 @@ pub fn bring(state: &mut State, entry: Entry) -> Result<(), AllocError>
         Change::SetRules { rules, weight } => bring_rules(state, stamp, project, rules, weight),
         other => bring_asked(state, stamp, project, other),
     }
+}
+
+/// Brings that a bucket is done, by the bucket's clashes: the entry is added where the bucket is still to be checked,
+/// and else nothing is.
+pub fn bring_set(state: &mut State, stamp: Stamp, set: Shared<BucketSet>) -> Result<(), AllocError>
+    requires kept { IsKept state.old }
+    requires after { IsBefore stamp.turn state.old.entries.items }
+    requires given { IsGiven (settings_of state.old) state.old.entries.items set.work }
+    ensures brought { OnOk result (IsBrought (settings_of state.old) state.old.entries.items
+        (entry_of stamp set.work.project (Change.BucketDone set.work.version set.work.cell))
+        state.new.entries.items) }
+    ensures made { OnOk result (AreMade (settings_of state.old) state.old.entries.items
+        → AreMade (settings_of state.old) state.new.entries.items) }
+    ensures settings { settings_of state.new ≡ settings_of state.old }
+    ensures kept { IsKept state.new }
+    ensures err { OnErr result (state.new.entries.items ≡ state.old.entries.items) }
+{
+    know_whole(set.get().work().grid.get());
+    let body = finish(state, stamp, set)?;
+    drop(body);
+    Ok(())
 }

@@ -1,25 +1,27 @@
 //! The book.
-ghost use Rattle.std.specs.Prelude.{◌≡◌, ◌↔◌, ◌≤◌, ◌+◌, ◌++◌, [], ◌∷◌, if◌then◌else◌, IsTrue, IsSome, IfOk, OnOk, OnErr};
+ghost use Rattle.std.specs.Prelude.{◌≡◌, ◌≤◌, ◌+◌, ◌++◌, [], IsSome, IfOk, OnOk, OnErr};
+ghost use Rattle.book_history.specs.declared.changes.Change.{Change};
 ghost use Rattle.book_history.specs.declared.limits.TheConstants.{MOST_PROJECTS};
 ghost use Rattle.book_history.specs.Settings.{IsWithinStated};
 ghost use Rattle.book_history.specs.History.{left_all, horizon_of, IsBefore, IsHistory};
-ghost use Rattle.book_history.specs.Requests.{ahead, without_turn, reply_of, added_by};
-ghost use Rattle.book_history.specs.Legal.{IsLegal};
-ghost use Rattle.book_history.specs.HistoryLaws.{IsWhole};
+ghost use Rattle.book_history.specs.Requests.{ahead, without_turn, reply_of, added_by, entry_of};
+ghost use Rattle.book_history.specs.Legal.{IsLegal, IsGiven};
 ghost use Rattle.book_history.specs.MadeEntries.{IsBuilt, AreMade};
-ghost use Rattle.book_history.specs.AcceptedChanges.{request_for, IsAccepted, IsWorkOf};
+ghost use Rattle.book_history.specs.AcceptedChanges.{request_for, Brings, IsWorkOf};
 
-use crate::applying::bring;
+use crate::applying::{bring, bring_set};
 use crate::asking::act_on;
 use crate::project::Project;
 use crate::state::State;
+use crate::version::know_whole;
 use crate::working::work_of;
-use bim_model::know;
+use bim_model::Shared;
 use book_history::{
     BookCall, BookFault, BookReply, BookRequest, Entry, Limits, MOST_PROJECTS, ReplyBody, Settings,
     Stamp, WorkOrder,
 };
-use bucket_grid::{Cell, Grid};
+use bucket_check::BucketSet;
+use bucket_grid::Cell;
 use std::alloc::{AllocError, Global};
 
 // Why a call is refused for the turn that it gives, at its own turn.
@@ -53,17 +55,6 @@ impl std::marker::Model for Book {
     ghost view = { λ b. record { settings = settings_of b.state; journal = b.state.entries.items } };
 
     ghost invariant = { λ b. IsBook b.state };
-}
-
-// What is known of every grid: all that it holds is that of its version.
-fn know_whole(grid: &Grid)
-    ensures { IsWhole grid.now }
-{
-    know(grid.models());
-    know(grid.places());
-    know(grid.boxes());
-    know(grid.buckets());
-    know(grid.memberships());
 }
 
 // What is known of every request.
@@ -198,20 +189,36 @@ impl Book {
 
     /// Brings an entry that another book made, of a turn above those of the journal, and tells whether it was added:
     /// it is where a request for its change would be accepted here. An `Err` leaves the book as it was. The condition
-    /// is that the entry isn't of a bucket that is done: `act` takes the bucket's clashes.
+    /// is that the entry isn't of a bucket that is done: that is brought by the bucket's clashes.
     pub fn bring(&mut self, entry: Entry) -> Result<bool, AllocError>
         requires after { IsBefore entry.stamp.turn self.old.journal }
         requires asked { IsSome (request_for entry.project entry.change) }
-        ensures accepted { IfOk result (λ added. IsTrue added
-            ↔ IsAccepted self.old.settings self.old.journal entry.project entry.change) }
-        ensures journal { IfOk result (λ added. self.new.journal
-            ≡ self.old.journal ++ (if added then entry ∷ [] else [])) }
+        ensures brought { IfOk result (λ added.
+            Brings self.old.settings self.old.journal entry added self.new.journal) }
         ensures settings { self.new.settings ≡ self.old.settings }
         ensures after { IsBefore (entry.stamp.turn + 1) self.new.journal }
         ensures err { OnErr result (self.new ≡ self.old) }
     {
         let before = self.state.entries.len();
         bring(&mut self.state, entry)?;
+        Ok(self.state.entries.len() > before)
+    }
+
+    /// Brings that a bucket is done, as an entry that another book made says, at the entry's turn. The bucket's
+    /// clashes are what was found here. It tells whether the entry was added: it is where the bucket is one of a live
+    /// version and still to be checked. An `Err` leaves the book as it was.
+    pub fn bring_bucket(&mut self, stamp: Stamp, set: Shared<BucketSet>) -> Result<bool, AllocError>
+        requires after { IsBefore stamp.turn self.old.journal }
+        requires given { IsGiven self.old.settings self.old.journal set.work }
+        ensures brought { let entry = entry_of stamp set.work.project
+            (Change.BucketDone set.work.version set.work.cell) in
+            IfOk result (λ added. Brings self.old.settings self.old.journal entry added self.new.journal) }
+        ensures settings { self.new.settings ≡ self.old.settings }
+        ensures after { IsBefore (stamp.turn + 1) self.new.journal }
+        ensures err { OnErr result (self.new ≡ self.old) }
+    {
+        let before = self.state.entries.len();
+        bring_set(&mut self.state, stamp, set)?;
         Ok(self.state.entries.len() > before)
     }
 }

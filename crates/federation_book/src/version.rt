@@ -7,6 +7,7 @@ ghost use Rattle.book_history.specs.Buckets.{buckets_of, is_among};
 ghost use Rattle.book_history.specs.Orders.{OrderValue};
 ghost use Rattle.book_history.specs.Versions.{nothing, is_done, with_done, made_after};
 ghost use Rattle.book_history.specs.Requests.{order_at};
+ghost use Rattle.book_history.specs.HistoryLaws.{IsWhole};
 ghost use Rattle.book_history.proofs.OneGrid.{HasParts};
 
 use bim_model::{Rules, Shared, Snapshot, know};
@@ -40,6 +41,17 @@ impl Model for KeptVersion {
 
     ghost invariant = { λ v. (v.grid.version ≡ v.snapshot) × IsOf v.grid v.progress
         × IfSome v.published (λ (p : Version). p ≡ v.snapshot) };
+}
+
+/// What is known of every grid: all that it holds is that of its version.
+pub fn know_whole(grid: &Grid)
+    ensures { IsWhole grid.now }
+{
+    know(grid.models());
+    know(grid.places());
+    know(grid.boxes());
+    know(grid.buckets());
+    know(grid.memberships());
 }
 
 /// What is known of every grid.

@@ -1,12 +1,11 @@
-use Rattle.std.proofs.Common.{◌≡◌, ◌↔◌, ◌++◌, ◌∷◌, [], cond, IsTrue, ◌∙◌, List, length, refl, sym, ap, ap₂, subst}
+use Rattle.std.proofs.Common.{◌≡◌, ◌∙◌, List, refl, sym, ap, ap₂, subst}
 use Rattle.book_history.specs.declared.changes.Entry.{Entry}
 use Rattle.book_history.specs.declared.limits.Settings.{Settings}
 use Rattle.book_history.specs.History.{IsBefore}
 use Rattle.book_history.specs.Requests.{BookState}
-use Rattle.book_history.specs.AcceptedChanges.{IsAccepted, IsBrought}
-use Rattle.federation_book.specs.KeptProjects.{settings_of}
+use Rattle.book_history.specs.AcceptedChanges.{IsBrought}
 use Rattle.federation_book.proofs.Acting.{after_none, made_same, on_err}
-use Rattle.federation_book.proofs.Brought.{tells_added, journal_added, made_brought, after_brought}
+use Rattle.federation_book.proofs.Brought.{tells_brought, made_brought, after_brought}
 use Rattle.federation_book.proofs.book.Book.bring.Goals as goal
 
 pub bring-requires-clause-kept : goal.bring-requires-clause-kept
@@ -43,11 +42,8 @@ invariant_of-self-2 c = record {
       (made_brought _ _ _ c.args.entry c.requires.asked c.self.invariant.made c.in_ok-bring.ensures.brought);
 }
 
-pub returns-clause-accepted : goal.returns-clause-accepted
-returns-clause-accepted c = ?
-
-pub returns-clause-journal : goal.returns-clause-journal
-returns-clause-journal c = ?
+pub returns-clause-brought : goal.returns-clause-brought
+returns-clause-brought c = ?
 
 pub returns-clause-settings : goal.returns-clause-settings
 returns-clause-settings c = c.bring.ensures.settings ∙ ap (λ (b : BookState). b.settings) c.self.view_is
