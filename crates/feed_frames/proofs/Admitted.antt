@@ -1,8 +1,7 @@
 -- From what the parts of a reading give to what the whole admits.
-use Rattle.std.proofs.Common.{◌≡◌, ℕ, eqb, Bool, true, false, cond, List, [], ◌∷◌, Option, Some, None, Result, Ok, Err, refl, sym, ap, subst, ◌∙◌}
+use Rattle.std.proofs.Common.{◌≡◌, ℕ, eqb, Bool, true, false, cond, List, Option, Some, None, Result, Ok, Err, refl, sym, ap, subst, ◌∙◌}
 use Rattle.std.proofs.lemmas.Bool.{eqb-true}
 use Rattle.std.proofs.lemmas.Option.{same_Some}
-use Rattle.bim_model.specs.Models.{IsModel}
 use Rattle.bim_model.specs.declared.element.Element.{Element}
 use Rattle.book_turn.specs.declared.object.Stamp.{Stamp}
 use Rattle.book_history.specs.declared.changes.Change.{Change}
@@ -11,7 +10,7 @@ use Rattle.book_history.specs.declared.changes.Entry.{Entry}
 use Rattle.feed_frames.specs.declared.read_error.ReadError.{ReadError}
 use Rattle.feed_frames.specs.declared.read_error.ReadError.TheVariants.{NotSpelled, Memory}
 use Rattle.feed_frames.specs.SpelledEntries.{UploadsModel, UploadsModelOf}
-use Rattle.feed_frames.specs.inner.Readers.{Reader, option_then, byte_at, Fails, Gives, Refuses, Admits}
+use Rattle.feed_frames.specs.inner.Readers.{option_then, byte_at, Fails, Gives, Refuses, Admits}
 use Rattle.feed_frames.specs.inner.EntryReaders.{named_elements_at, upload_at, other_kinds, all_kinds, change_at, head_at, body_at, entry_at, MakesUpload}
 use Rattle.feed_frames.proofs.Formats.{then_some}
 use Rattle.feed_frames.proofs.Changes.{no_model_is_read}

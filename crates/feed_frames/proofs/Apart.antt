@@ -1,16 +1,16 @@
 -- Frames begin no others.
-use Rattle.std.proofs.Common.{◌≡◌, ℕ, ◌+◌, ◌^◌, ◌<◌, ◌≤◌, List, [], ◌∷◌, ◌++◌, length, take, drop, All, Option, Some, None, refl, sym, ap, subst, ◌∙◌, append_assoc, arith}
-use Rattle.std.specs.List.{flat_map, AllByRecursion}
+use Rattle.std.proofs.Common.{◌≡◌, ℕ, ◌^◌, ◌<◌, ◌≤◌, List, [], ◌∷◌, ◌++◌, length, refl, sym, ap, subst, ◌∙◌, append_assoc, arith}
+use Rattle.std.specs.List.{AllByRecursion}
 use Rattle.std.proofs.lemmas.List.Elements.{recursion_from_All}
 use Rattle.std.specs.Int.{w64, to_be_bytes, from_be_bytes}
 use Rattle.std.proofs.lemmas.Nat.{from_be_bytes-to_be_bytes_8}
-use Rattle.std.proofs.lemmas.List.{append-nil, append_cancel_left, take_at, drop_at, length-append}
+use Rattle.std.proofs.lemmas.List.{take_at, length-append}
 use Rattle.std.proofs.lemmas.Option.{some_pair_parts}
 use Rattle.book_history.specs.declared.changes.Entry.{Entry}
 use Rattle.feed_frames.specs.FieldBytes.{long_bytes}
 use Rattle.feed_frames.specs.EntryBytes.{payload, frame}
-use Rattle.feed_frames.specs.SpelledEntries.{UploadsModel, IsEntry}
-use Rattle.feed_frames.specs.FrameStreams.{frames, count_at, IsPartial, Splits, FramesAreApart, StreamsSplitOnce}
+use Rattle.feed_frames.specs.SpelledEntries.{IsEntry}
+use Rattle.feed_frames.specs.FrameStreams.{frames, count_at, IsPartial, FramesAreApart, StreamsSplitOnce}
 use Rattle.feed_frames.specs.inner.EntryReaders.{entry_at}
 use Rattle.feed_frames.specs.inner.FieldReaders.{long_at}
 use Rattle.feed_frames.proofs.Fields.{long}

@@ -1,5 +1,5 @@
 -- The formats of changes and entries.
-use Rattle.std.proofs.Common.{◌≡◌, ℕ, eqb, inl, inr, List, [], ◌∷◌, ◌++◌, Option, Some, None, refl, sym, ap, subst, ◌∙◌}
+use Rattle.std.proofs.Common.{◌≡◌, ℕ, eqb, inl, inr, List, ◌++◌, Some, refl, subst}
 use Rattle.std.proofs.lemmas.Option.{same_Some}
 use Rattle.bim_model.specs.declared.author.Author.{Author}
 use Rattle.book_history.specs.declared.changes.Change.{Change}
@@ -8,7 +8,7 @@ use Rattle.book_history.specs.declared.changes.Entry.{Entry}
 use Rattle.feed_frames.specs.FieldBytes.{long_bytes}
 use Rattle.feed_frames.specs.EntryBytes.{author_bytes, kind_of, fields_of, change_bytes, payload}
 use Rattle.feed_frames.specs.SpelledEntries.{IsLong, FitsAuthor, FitsChange, FitsEntry, UploadsModel}
-use Rattle.feed_frames.specs.inner.Readers.{Reader, Kinds, made_at, option_then, kind_at, no_kind, kinds_at}
+use Rattle.feed_frames.specs.inner.Readers.{Reader, Kinds, made_at, kind_at, no_kind}
 use Rattle.feed_frames.specs.inner.EntryReaders.{upload_at, remove_at, set_rules_at, bucket_done_at, post_topic_at, put_topic_at, delete_topic_at, post_comment_at, put_comment_at, delete_comment_at, post_view_at, delete_view_at, clash_topic_at, source_at, other_kinds, change_at, entry_at}
 use Rattle.feed_frames.proofs.Formats.{chosen, IsFormat, both, made, into_again, then_some, IsKinds, no_kinds, with_kind, kinds_format}
 use Rattle.feed_frames.proofs.Fields as field

@@ -1,9 +1,9 @@
 -- The formats of single fields.
-use Rattle.std.proofs.Common.{◌≡◌, ℕ, ℤ, pos, negsuc, ◌+◌, ◌-◌, ◌^◌, ◌<◌, ◌≤◌, Bool, true, false, List, [], ◌∷◌, ◌++◌, length, get_or, All, Option, Some, None, refl, sym, ap, subst, ◌∙◌, append_assoc, arith}
+use Rattle.std.proofs.Common.{◌≡◌, ℕ, ℤ, pos, negsuc, ◌^◌, ◌<◌, Bool, true, false, List, [], ◌∷◌, ◌++◌, length, Option, Some, None, refl, sym, ap, subst, ◌∙◌, append_assoc, arith}
 use Rattle.std.specs.Prelude.{IfSome, FitsSigned}
-use Rattle.std.specs.List.{flat_map, AllByRecursion}
+use Rattle.std.specs.List.{flat_map}
 use Rattle.std.specs.Int.{Width, w32, w64, byte_len, from_be_bytes, to_be_bytes, cast_signed, cast_unsigned}
-use Rattle.std.specs.Str.{IsUtf8, is_utf8}
+use Rattle.std.specs.Str.{is_utf8}
 use borrow.Author.Gap.{read_sfits}
 use Rattle.std.proofs.lemmas.Int.{of_z-to_z, to_z-of_z}
 use Rattle.std.proofs.lemmas.List.Elements.{All-from_recursion, recursion_from_All}
@@ -12,7 +12,7 @@ use Rattle.std.proofs.lemmas.Option.{same_Some}
 use Rattle.std.proofs.lemmas.Str.{IsUtf8-from_is_utf8, is_utf8-from_IsUtf8}
 use Rattle.feed_frames.specs.FieldBytes.{long_bytes, short_bytes, signed_bytes, truth_bytes, text_bytes, optional_bytes, counted_bytes}
 use Rattle.feed_frames.specs.SpelledEntries.{IsLong, IsShort, IsSigned, FitsText, FitsList}
-use Rattle.feed_frames.specs.inner.Readers.{Reader, option_then, nothing_at, cut_at, made_at, checked_at, items_at, kind_at, no_kind, kinds_at}
+use Rattle.feed_frames.specs.inner.Readers.{Reader, option_then, nothing_at, cut_at, made_at, items_at, kind_at, no_kind}
 use Rattle.feed_frames.specs.inner.FieldReaders.{long_at, short_at, signed_at, sized_at, text_at, counted_at, truth_at, optional_at}
 use Rattle.feed_frames.proofs.Formats.{IsBytes, IsBytes-front, Takes, Takes-then, then_some, IsFormat, nothing, cut, made, into_again, checked, good_as, spelled_as, items_take, items_again, no_kinds, with_kind, kinds_format}
 

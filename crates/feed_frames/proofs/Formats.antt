@@ -1,10 +1,10 @@
 -- A reader and a spelling that belong together: what is read was spelled so, and what is spelled is read.
-use Rattle.std.proofs.Common.{◌≡◌, ℕ, zero, suc, ◌+◌, ◌<◌, ◌≤◌, ◌⊎◌, Bool, true, false, cond, eqb, leb, List, [], ◌∷◌, ◌++◌, length, get_or, take, drop, All, Option, Some, None, refl, sym, ap, subst, ◌∙◌, append_assoc, arith, inl, inr}
+use Rattle.std.proofs.Common.{◌≡◌, ℕ, zero, suc, ◌+◌, ◌<◌, ◌≤◌, ◌⊎◌, Bool, true, false, cond, eqb, leb, List, [], ◌∷◌, ◌++◌, length, get_or, take, drop, Option, Some, None, refl, sym, ap, subst, ◌∙◌, append_assoc, arith, inl, inr}
 use Rattle.std.specs.List.{flat_map, AllByRecursion}
-use Rattle.std.proofs.lemmas.Bool.{eqb-true, eqb-false, leb-true, le-leb, cases_lt}
+use Rattle.std.proofs.lemmas.Bool.{eqb-true, leb-true, le-leb, cases_lt}
 use Rattle.std.proofs.lemmas.List.{take_at, drop_at, take-append-drop, length-append, length-take, get_or_append_left, get_or-append-add, get_or_past}
 use Rattle.std.proofs.lemmas.Option.{same_Some, cond_some}
-use Rattle.feed_frames.specs.inner.Readers.{Reader, Kinds, option_then, nothing_at, byte_at, cut_at, both_at, made_at, checked_at, items_at, no_kind, kind_at, kinds_at}
+use Rattle.feed_frames.specs.inner.Readers.{Reader, Kinds, option_then, nothing_at, cut_at, both_at, made_at, checked_at, items_at, no_kind, kind_at, kinds_at}
 
 -- each is a byte
 abbrev pub IsBytes : List ℕ → Type 0

@@ -1,5 +1,5 @@
 -- What was read keeps the rules of its type.
-use Rattle.std.proofs.Common.{◌≡◌, ℕ, ◌≤◌, Bool, true, false, List, length, All, Option, Some, None, refl, arith}
+use Rattle.std.proofs.Common.{◌≡◌, ℕ, ◌≤◌, true, false, List, length, Option, Some, None, refl, arith}
 use Rattle.std.specs.Prelude.{IfSome}
 use Rattle.std.specs.Str.{IsUtf8, is_utf8}
 use Rattle.std.proofs.lemmas.Str.{IsUtf8-from_is_utf8, is_utf8-from_IsUtf8}
@@ -12,12 +12,11 @@ use Rattle.bim_model.specs.declared.rules.ClassTest.TheVariants.{Any, Named}
 use Rattle.bim_model.specs.declared.rules.RuleKind.{RuleKind}
 use Rattle.bim_model.specs.declared.rules.RuleKind.TheVariants.{Clash, Pierce, Ignore}
 use Rattle.bim_model.specs.declared.rules.Rule.{Rule}
-use Rattle.bcf_viewpoints.specs.Components.{IsComponent, IsColoring}
+use Rattle.bcf_viewpoints.specs.Components.{IsColoring}
 use Rattle.bcf_viewpoints.specs.Viewpoints.{IsViewBody}
-use Rattle.bcf_viewpoints.specs.declared.component.Component.{Component}
 use Rattle.bcf_viewpoints.specs.declared.component.Coloring.{Coloring}
 use Rattle.bcf_viewpoints.specs.declared.view.ViewBody.{ViewBody}
-use Rattle.feed_frames.specs.SpelledEntries.{FitsClassTest, FitsLevel, FitsRuleKind, FitsRule, FitsComponent, FitsColoring, FitsView}
+use Rattle.feed_frames.specs.SpelledEntries.{FitsClassTest, FitsLevel, FitsRuleKind, FitsRule, FitsColoring}
 use Rattle.feed_frames.specs.inner.FieldReaders.{counted_at}
 use Rattle.feed_frames.specs.inner.EntryReaders.{rule_at, view_at}
 use Rattle.feed_frames.proofs.Formats.{IsBytes}

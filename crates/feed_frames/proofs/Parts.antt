@@ -1,13 +1,13 @@
 -- The formats of the parts of an entry.
-use Rattle.std.proofs.Common.{◌≡◌, ℕ, ℤ, ◌+◌, ◌<◌, ◌≤◌, ◌&&◌, Bool, true, false, ltb, leb, List, [], ◌∷◌, ◌++◌, length, All, Option, Some, None, refl, sym, ap, subst, ◌∙◌, arith}
+use Rattle.std.proofs.Common.{◌≡◌, ℕ, ◌&&◌, Bool, true, false, ltb, leb, List, [], ◌∷◌, ◌++◌, length, Option, Some, None, refl, arith}
 use Rattle.std.specs.Prelude.{IfSome}
 use Rattle.std.specs.List.{list_all}
 use Rattle.std.proofs.lemmas.Bool.{leb-true, le-leb, ltb-true, lt-ltb}
-use Rattle.bim_model.specs.Guids.{IsGuid, is_guid_char}
+use Rattle.bim_model.specs.Guids.{is_guid_char}
 use Rattle.bim_model.specs.Moments.{IsMoment, last_moment}
 use Rattle.bim_model.specs.Distances.{IsDistance}
 use Rattle.bim_model.specs.Rules.{IsClassName, is_class_char}
-use Rattle.bim_model.specs.declared.limits.TheConstants.{MOST_RULES, MOST_DISTANCE, MOST_CLASS, MOST_LEVEL}
+use Rattle.bim_model.specs.declared.limits.TheConstants.{MOST_RULES, MOST_DISTANCE, MOST_CLASS}
 use Rattle.bim_model.specs.declared.author.Author.{Author}
 use Rattle.bim_model.specs.declared.element.Element.{Element}
 use Rattle.bim_model.specs.declared.geometry.Point.{Point}
@@ -31,10 +31,10 @@ use Rattle.bucket_grid.specs.declared.cell.Cell.{Cell}
 use Rattle.book_turn.specs.declared.object.Stamp.{Stamp}
 use Rattle.feed_frames.specs.FieldBytes.{long_bytes, short_bytes, signed_bytes, text_bytes, optional_bytes, counted_bytes}
 use Rattle.feed_frames.specs.EntryBytes.{guid_bytes, point_bytes, triangle_bytes, element_bytes, class_test_bytes, storey_test_bytes, model_test_bytes, rule_kind_bytes, rule_bytes, author_bytes, topic_front_bytes, topic_back_bytes, topic_bytes, comment_bytes, component_bytes, coloring_bytes, view_bytes, cell_bytes, stamp_bytes}
-use Rattle.feed_frames.specs.SpelledEntries.{IsLong, IsShort, IsSigned, FitsText, FitsList, FitsGuid, FitsPoint, FitsTriangle, FitsElement, FitsClassTest, FitsLevel, FitsRuleKind, FitsRule, FitsRules, FitsAuthor, FitsTopic, FitsComment, FitsComponent, FitsColoring, FitsView, FitsCell, FitsStamp}
+use Rattle.feed_frames.specs.SpelledEntries.{IsSigned, FitsText, FitsList, FitsGuid, FitsPoint, FitsTriangle, FitsElement, FitsClassTest, FitsLevel, FitsRuleKind, FitsRule, FitsRules, FitsAuthor, FitsTopic, FitsComment, FitsComponent, FitsColoring, FitsView, FitsCell, FitsStamp}
 use Rattle.feed_frames.specs.declared.topic_fields.TopicFront.{TopicFront}
 use Rattle.feed_frames.specs.declared.topic_fields.TopicBack.{TopicBack}
-use Rattle.feed_frames.specs.inner.Readers.{Reader, nothing_at, both_at, made_at, checked_at, kind_at, no_kind, kinds_at}
+use Rattle.feed_frames.specs.inner.Readers.{nothing_at, made_at, checked_at, kind_at, no_kind}
 use Rattle.feed_frames.specs.inner.FieldReaders.{text_at}
 use Rattle.feed_frames.specs.inner.EntryReaders.{guid_at, moment_at, point_at, triangle_at, element_at, is_class_name, class_test_at, storey_test_at, model_test_at, distance_at, rule_kind_at, is_level, level_at, rule_at, rules_at, author_at, topic_front_at, topic_back_at, topic_by, topic_at, comment_at, component_at, coloring_at, view_at, cell_at, stamp_at}
 use Rattle.feed_frames.proofs.Formats.{IsFormat, nothing, cut, both, made, into_again, checked, good_as, spelled_as, no_kinds, with_kind, kinds_format}

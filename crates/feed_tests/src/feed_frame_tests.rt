@@ -41,6 +41,16 @@ static BAD_PAYLOADS: [&str; 14] = [
     "0000000000000009000000000000000000000009000000010500000000000000017400000000ffffffffffffffff",
 ];
 
+/// What stands behind the frames in a stream, the size of its pieces, and whether it is a bad frame.
+static STREAMS: [(&str, usize, bool); 6] = [
+    ("000000000000000209", 1, false),
+    ("000000000000000209", 7, false),
+    ("ffffffffffffffffffffffffffffffffffffffff", 1, false),
+    ("0000000000000000", 1, true),
+    ("0000000000000000", 50, true),
+    ("0000000000000000", 5_000, true),
+];
+
 fn digit(hex: u8) -> u8 {
     match hex {
         b'0'..=b'9' => hex - b'0',
@@ -49,14 +59,20 @@ fn digit(hex: u8) -> u8 {
     }
 }
 
-// The bytes of hexadecimal digits.
-fn bytes_of(alloc: Global, text: &str) -> Result<Vec<u8>, AllocError> {
-    let mut bytes = Vec::new(alloc);
+// Writes the bytes of hexadecimal digits.
+fn put_bytes(text: &str, bytes: &mut Vec<u8>) -> Result<(), AllocError> {
     for pair in text.as_bytes().chunks(2) {
         if let [high, low] = pair {
             bytes.push(digit(*high) << 4 | digit(*low))?;
         }
     }
+    Ok(())
+}
+
+// The same as bytes of their own.
+fn bytes_of(alloc: Global, text: &str) -> Result<Vec<u8>, AllocError> {
+    let mut bytes = Vec::new(alloc);
+    put_bytes(text, &mut bytes)?;
     Ok(bytes)
 }
 
@@ -147,30 +163,36 @@ fn told(alloc: Global, stream: &[u8], size: usize) -> Result<(u32, Option<FrameE
 }
 
 // The frames of the table one after another, and then these bytes.
-fn stream_of(alloc: Global, behind: &[u8]) -> Result<Vec<u8>, AllocError> {
+fn stream_of(alloc: Global, behind: &str) -> Result<Vec<u8>, AllocError> {
     let mut stream = Vec::new(alloc);
     for text in FRAMES.iter() {
-        let frame = bytes_of(alloc, *text)?;
-        stream.extend_from_slice(frame.as_slice())?;
+        put_bytes(*text, &mut stream)?;
     }
-    stream.extend_from_slice(behind)?;
+    put_bytes(behind, &mut stream)?;
     Ok(stream)
+}
+
+// Whether each frame of the table gives an entry, and the bytes behind them none: for they are no whole frame, or a bad
+// one, which is told by its place.
+fn gives_all(alloc: Global, behind: &str, size: usize, bad: bool) -> Result<bool, AllocError> {
+    let stream = stream_of(alloc, behind)?;
+    let at = stream.len().saturating_sub(behind.len() / 2) as u64;
+    let answer = told(alloc, stream.as_slice(), size.max(1));
+    drop(stream);
+    let (count, error) = answer?;
+    let wanted = if bad {
+        Some(FrameError::BadFrame { at })
+    } else {
+        None
+    };
+    Ok(count == 13 && error == wanted)
 }
 
 #[test]
 fn streams_are_cut_anywhere(rt: HostRuntime) -> Result<(), Fail> {
     let alloc = rt.alloc();
-    let cut = stream_of(alloc, &[0, 0, 0, 0, 0, 0, 0, 2, 9])?;
-    assert!(rt; matches!(told(alloc, cut.as_slice(), 1)?, (13, None)));
-    assert!(rt; matches!(told(alloc, cut.as_slice(), 7)?, (13, None)));
-    let long = stream_of(alloc, &[255; 20])?;
-    assert!(rt; matches!(told(alloc, long.as_slice(), 1)?, (13, None)));
-    let bad = stream_of(alloc, &[0; 8])?;
-    let at = bad.len().saturating_sub(8) as u64;
-    for size in [1, 50, 5_000] {
-        let (count, error) = told(alloc, bad.as_slice(), size)?;
-        assert_eq!(rt; count, 13);
-        assert_eq!(rt; error, Some(FrameError::BadFrame { at }));
+    for (behind, size, bad) in STREAMS.iter() {
+        assert!(rt; gives_all(alloc, *behind, *size, *bad)?);
     }
     Ok(())
 }

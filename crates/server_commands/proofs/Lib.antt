@@ -2,6 +2,7 @@ pub mod Worked
 pub mod Giving
 pub mod OneActor
 pub mod Replaying
+pub mod WholeRequests
 pub mod Grammar
 pub mod Statuses
 pub mod ServeGrammar

@@ -1,10 +1,10 @@
 -- What the commands do and answer.
-use Rattle.std.specs.Prelude.{◌≡◌, ◌≢◌, ◌⊎◌, ℕ, List, [], ◌∷◌, if◌then◌else◌, Option, Some, None, codes}
+use Rattle.std.specs.Prelude.{◌≡◌, ◌≢◌, ◌⊎◌, ◌↔◌, ℕ, List, [], ◌∷◌, if◌then◌else◌, Option, Some, None, IsSome, codes}
 use Rattle.std.specs.Str.{bytes_eq}
 use Rattle.bim_io.specs.StreamViews.{ClockSeen, SinkSeen, SinkTakes, Outside, outside}
 use Rattle.bim_io.specs.Writes.{WritesLess}
 use Rattle.bim_session.specs.declared.end.SessionEnd.{SessionEnd}
-use Rattle.bim_session.specs.Replay.{Replays, stated_settings, status_of}
+use Rattle.bim_session.specs.Replay.{stated_settings, status_of}
 use Rattle.server_commands.specs.declared.replay_words.ReplayWords.{ReplayWords}
 use Rattle.server_commands.specs.declared.replay_words.Time.{Time}
 use Rattle.server_commands.specs.declared.replay_words.Time.TheVariants.{OfClock, At}
@@ -17,6 +17,7 @@ use Rattle.bim_net.specs.Hosts.{HostSeen}
 use Rattle.server_commands.specs.declared.about.TheConstants.{HELP, VERSION_LINE}
 use Rattle.server_commands.specs.declared.serve.Ended.{Ended}
 use Rattle.server_commands.specs.ReplayWords.{replay_words}
+use Rattle.server_commands.specs.WholeSessions.{ReplaysAlone}
 use Rattle.server_commands.specs.ServeWords.{serve_words}
 use Rattle.server_commands.specs.ServeCommand.{ServesBy, without_book}
 
@@ -28,7 +29,7 @@ ReadsNothing before after = (after.source ≡ before.source) × (after.clock ≡
 pub record ReplaysTo (buckets : Option ℕ) (projects : ℕ) (before after : Outside) (status : ℕ) : Type 0 where
   pub end : SessionEnd
   pub status_is : status ≡ status_of end
-  pub replays : Replays (stated_settings projects) buckets before after end
+  pub replays : ReplaysAlone (stated_settings projects) buckets before after end
 
 -- a session is replayed by a clock that always gives this moment; the one of the outside was not asked
 pub record ReplaysAt (buckets : Option ℕ) (projects moment : ℕ) (before after : Outside)
@@ -134,3 +135,8 @@ Ends (Serve words) before after files files' host host' ended =
     × ReadsNothing before after × (files' ≡ files)
 Ends (Other command) before after files files' host host' ended =
     Runs command before after files files' ended.status × (ended ≡ without_book ended.status) × (host' ≡ host)
+
+-- a pass that had made all its turns is told exactly where `serve` ends with status 7, and by no other command
+abbrev pub TellsSpent : Asked → Ended → Type 0
+TellsSpent (Serve words) ended = (ended.status ≡ 7) ↔ IsSome ended.spent
+TellsSpent (Other command) ended = ended.spent ≡ None

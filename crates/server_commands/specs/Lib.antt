@@ -1,4 +1,5 @@
 pub mod ReplayWords
+pub mod WholeSessions
 pub mod Commands
 pub mod ServeWords
 pub mod ServeCommand

@@ -4,7 +4,7 @@ ghost use Rattle.bim_io.specs.Causes.{Rose, ComesOfFault};
 ghost use Rattle.bim_io.specs.StreamViews.{outside};
 ghost use Rattle.server_commands.specs.ReplayWords.{replay_words, IsReplay};
 ghost use Rattle.server_commands.specs.ServeCommand.{without_book};
-ghost use Rattle.server_commands.specs.Commands.{Does, ReplaysBy, Runs, command_of, Ends, SaysUsage, asked_by};
+ghost use Rattle.server_commands.specs.Commands.{Does, ReplaysBy, Runs, command_of, Ends, SaysUsage, TellsSpent, asked_by};
 
 use crate::about::{HELP, VERSION_LINE, print_alone};
 use crate::replay::{replay_session, status_of};
@@ -164,6 +164,7 @@ where
         (outside (S.seen source.old) (K.seen sink.old) (T.seen clock.old))
         (outside (S.seen source.new) (K.seen sink.new) (T.seen clock.new))
         (F.seen files.old) (F.seen files.new) (H.seen host.old) (H.seen host.new) result }
+    ensures spent { TellsSpent (asked_by words.now) result }
     ensures read { result.status ≡ 4 → Rose (S.seen source.old).faults (S.seen source.new).faults
         ⊎ (Rose (F.seen files.old).faults (F.seen files.new).faults
         ⊎ Rose (H.seen host.old).faults (H.seen host.new).faults) }

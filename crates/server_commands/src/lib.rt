@@ -5,6 +5,7 @@
 mod about;
 mod alone;
 mod commands;
+pub mod laws;
 mod one_thread;
 mod replay;
 mod replay_words;

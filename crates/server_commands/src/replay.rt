@@ -1,7 +1,8 @@
 //! One session over one source and one sink, with a one-thread book.
 ghost use Rattle.std.specs.Prelude.{◌≡◌, ◌≤◌};
 ghost use Rattle.bim_io.specs.StreamViews.{outside};
-ghost use Rattle.bim_session.specs.Replay.{Replays, stated_settings, status_of};
+ghost use Rattle.bim_session.specs.Replay.{stated_settings, status_of};
+ghost use Rattle.server_commands.specs.WholeSessions.{ReplaysAlone};
 
 use crate::alone::Alone;
 use crate::one_thread::OneThread;
@@ -40,7 +41,7 @@ pub fn replay_session<S: Source, K: Sink, C: Clock>(
 ) -> SessionEnd
     requires some { 1 ≤ projects }
     requires few { projects ≤ MOST_PROJECTS }
-    ensures { Replays (stated_settings projects) buckets
+    ensures { ReplaysAlone (stated_settings projects) buckets
         (outside (S.seen source.old) (K.seen sink.old) (C.seen clock.old))
         (outside (S.seen source.new) (K.seen sink.new) (C.seen clock.new)) result }
 {

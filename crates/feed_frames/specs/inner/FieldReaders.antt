@@ -1,5 +1,5 @@
 -- How the fields of an entry are read.
-use Rattle.std.specs.Prelude.{ℕ, ℤ, Bool, true, false, List, length, nat_le, Option, Some, None}
+use Rattle.std.specs.Prelude.{ℕ, ℤ, Bool, true, false, List, Option, Some, None}
 use Rattle.std.specs.Int.{w32, w64, from_be_bytes, cast_signed}
 use Rattle.std.specs.Str.{is_utf8}
 use Rattle.feed_frames.specs.inner.Readers.{Reader, option_then, nothing_at, cut_at, made_at, checked_at, items_at, kind_at, no_kind, kinds_at}
