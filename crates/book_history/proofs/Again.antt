@@ -49,7 +49,7 @@ split_and false b e = absurd cc
 
 -- the identifier of a project that was found, and the range of its number
 pub record IsNumbered (projects id n : ℕ) : Type 0 where
-  pub id : id ≡ identifier n 0
+  pub named : id ≡ identifier n 0
   pub low : 1 ≤ n
   pub high : n ≤ projects
 
@@ -63,7 +63,7 @@ numbered projects id n e =
     let high : k ≤ projects = leb-true _ _ p.1 in
     let same : k ≡ n = c.1 in
     record {
-      id = eqb-true _ _ q.0 ∙ ap (λ (m : ℕ). identifier m 0) same;
+      named = eqb-true _ _ q.0 ∙ ap (λ (m : ℕ). identifier m 0) same;
       low = omega (arith, low, same);
       high = omega (arith, high, same);
     }
@@ -184,7 +184,7 @@ module _ (s : Settings) (h : List Entry) (n : ℕ) (c : Change) where
 
   -- its project
   at_project : (id m : ℕ) → project_of s.projects id ≡ Some m → identifier m 0 ≡ id
-  at_project id m e = sym (numbered s.projects id m e).id
+  at_project id m e = sym (numbered s.projects id m e).named
 
   for_ : (m : ℕ) (d : Change) → (m ≡ n) × (d ≡ c) → request_for n c ≡ request_for m d
   for_ m d p = ap₂ request_for (sym p.0) (sym p.1)
@@ -374,7 +374,7 @@ module _ (s : Settings) (h : List Entry) (n : ℕ) (m : ℕ) (d : Change) where
   in_own : (f : ℕ → Outcome) → in_project (project_of s.projects (identifier n 0)) f ≡ Accepted m d → (k : ℕ) × (k ≡ n) × (f k ≡ Accepted m d)
   in_own f e =
       let a = in_project_some s h m d (identifier n 0) f e in
-      (a.0, project_once n a.0 (numbered s.projects (identifier n 0) a.0 a.1).id, a.2)
+      (a.0, project_once n a.0 (numbered s.projects (identifier n 0) a.0 a.1).named, a.2)
 
   topic_own : (k t : ℕ) (f : ℕ → Outcome) → k ≡ n → in_topic h k (identifier n t) f ≡ Accepted m d → (u : ℕ) × (u ≡ t) × (f u ≡ Accepted m d)
   topic_own k t f same e =

@@ -1,5 +1,5 @@
 -- That a bucket is done is accepted again where the bucket's clashes are taken.
-use Rattle.std.proofs.Common.{◌≡◌, ℕ, ◌++◌, nat_le, false, List, [], ◌∷◌, Option, Some, None, append-nil, inl, inr, refl, sym, ap, ◌∙◌, arith}
+use Rattle.std.proofs.Common.{◌≡◌, ℕ, ◌+◌, ◌++◌, nat_le, false, List, [], ◌∷◌, Option, Some, None, append-nil, inl, inr, refl, sym, ap, ◌∙◌, arith}
 use Rattle.std.proofs.lemmas.Bool.Decides.{nat_tests}
 use Rattle.bucket_grid.specs.declared.cell.Cell.{Cell}
 use Rattle.book_turn.specs.declared.object.Stamp.{Stamp}
