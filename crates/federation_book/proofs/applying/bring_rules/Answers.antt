@@ -10,8 +10,8 @@ use Rattle.federation_book.specs.KeptProjects.{settings_of}
 use Rattle.federation_book.proofs.Acting.{number_is, number_there}
 use Rattle.federation_book.proofs.applying.bring_rules.Goals as goal
 
-pub set_shared_rules-body-requires-clause-number : goal.set_shared_rules-body-requires-clause-number
-set_shared_rules-body-requires-clause-number c =
+pub set_shared_rules-requires-clause-number : goal.set_shared_rules-requires-clause-number
+set_shared_rules-requires-clause-number c =
     number_there c.project_of-number.result c.args.state.now.projects.items c.id_of.result
     (number_is c.project_of-number.result c.len.result c.args.state.now.projects.items c.id_of.result c.project_of-number.ensures (c.len.ensures ∙ c.args.state.now.projects.ok.0))
 
@@ -24,6 +24,6 @@ returns-clause-brought c =
     number_is c.project_of-number.result c.len.result c.args.state.now.projects.items c.id_of.result c.project_of-number.ensures (c.len.ensures ∙ c.args.state.now.projects.ok.0)
     ∙ ap (project_of (length c.args.state.now.projects.items)) c.id_of.ensures
     in
-    brought_by s h c.set_shared_rules-body.new.state.entries.items (entry_of c.args.stamp c.args.project d)
+    brought_by s h c.set_shared_rules.new.state.entries.items (entry_of c.args.stamp c.args.project d)
     (request.SetRules (identifier c.args.project 0) c.args.rules c.args.weight) refl
     (c.in_ok-body.ensures.added ∙ ap (λ (o : Option ℕ). h ++ listed (entry_by c.args.stamp (in_project o (changed s h d)))) number)
