@@ -9,4 +9,4 @@ use Rattle.federation_book.proofs.book.know_built.Goals as goal
 pub returns-in-Finish : goal.returns-in-Finish
 returns-in-Finish c =
     subst (λ (r : BookRequest). IsBuilt r) (sym c.in-Finish.is)
-    (subst IsWhole (c.get-2.ensures ∙ ap (λ (w : BucketWork). w.grid) (c.work.ensures ∙ ap (λ (s : SetValue). s.work) c.get.ensures)) c.know_whole.ensures)
+    (subst IsWhole (c.get-in-Finish.ensures ∙ ap (λ (w : BucketWork). w.grid) (c.work.ensures ∙ ap (λ (s : SetValue). s.work) c.get.ensures)) c.know_whole.ensures)
