@@ -1,4 +1,4 @@
-use Rattle.std.proofs.Common.{◌≡◌, ◌∙◌, List, refl, sym, ap, ap₂, subst}
+use Rattle.std.proofs.Common.{◌≡◌, ◌∙◌, ltb, List, length, refl, sym, ap, ap₂, subst}
 use Rattle.book_history.specs.declared.changes.Entry.{Entry}
 use Rattle.book_history.specs.declared.limits.Settings.{Settings}
 use Rattle.book_history.specs.History.{IsBefore}
@@ -43,7 +43,10 @@ invariant_of-self-2 c = record {
 }
 
 pub returns-clause-brought : goal.returns-clause-brought
-returns-clause-brought c = ?
+returns-clause-brought c =
+    tells_brought c.args.self.now.settings c.args.self.now.journal c.bring.new.state.entries.items c.args.entry _
+    (subst (λ (b : BookState). IsBrought b.settings b.journal c.args.entry c.bring.new.state.entries.items) c.self.view_is c.in_ok-bring.ensures.brought)
+    (ap₂ ltb (c.len-before.ensures ∙ ap (λ (b : BookState). length b.journal) c.self.view_is) c.len.ensures)
 
 pub returns-clause-settings : goal.returns-clause-settings
 returns-clause-settings c = c.bring.ensures.settings ∙ ap (λ (b : BookState). b.settings) c.self.view_is

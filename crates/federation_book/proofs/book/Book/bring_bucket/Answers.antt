@@ -1,4 +1,4 @@
-use Rattle.std.proofs.Common.{◌≡◌, ◌∙◌, List, refl, sym, ap, ap₂, subst}
+use Rattle.std.proofs.Common.{◌≡◌, ◌∙◌, ltb, List, length, refl, sym, ap, ap₂, subst}
 use Rattle.book_history.specs.declared.changes.Change.TheVariants as change
 use Rattle.book_history.specs.declared.changes.Entry.{Entry}
 use Rattle.book_history.specs.declared.limits.Settings.{Settings}
@@ -48,7 +48,11 @@ bring_set-requires-clause-given c =
     subst (λ (b : BookState). IsGiven b.settings b.journal c.args.set.work) (sym c.self.view_is) c.requires.given
 
 pub returns-clause-brought : goal.returns-clause-brought
-returns-clause-brought c = ?
+returns-clause-brought c =
+    let entry = entry_of c.args.stamp c.args.set.work.project (change.BucketDone c.args.set.work.version c.args.set.work.cell) in
+    tells_brought c.args.self.now.settings c.args.self.now.journal c.bring_set.new.state.entries.items entry _
+    (subst (λ (b : BookState). IsBrought b.settings b.journal entry c.bring_set.new.state.entries.items) c.self.view_is c.in_ok-bring_set.ensures.brought)
+    (ap₂ ltb (c.len-before.ensures ∙ ap (λ (b : BookState). length b.journal) c.self.view_is) c.len.ensures)
 
 pub returns-clause-settings : goal.returns-clause-settings
 returns-clause-settings c = c.bring_set.ensures.settings ∙ ap (λ (b : BookState). b.settings) c.self.view_is
