@@ -46,7 +46,7 @@ pub returns-clause-brought : goal.returns-clause-brought
 returns-clause-brought c =
     tells_brought c.args.self.now.settings c.args.self.now.journal c.bring.new.state.entries.items c.args.entry _
     (subst (λ (b : BookState). IsBrought b.settings b.journal c.args.entry c.bring.new.state.entries.items) c.self.view_is c.in_ok-bring.ensures.brought)
-    (ap₂ ltb (c.len-before.ensures ∙ ap (λ (b : BookState). length b.journal) c.self.view_is) c.len.ensures)
+    (ap₂ ltb (c.len-before.ensures ∙ c.self.inside.state.entries.ok.0 ∙ ap (λ (b : BookState). length b.journal) c.self.view_is) (c.len.ensures ∙ c.bring.new.state.entries.ok.0))
 
 pub returns-clause-settings : goal.returns-clause-settings
 returns-clause-settings c = c.bring.ensures.settings ∙ ap (λ (b : BookState). b.settings) c.self.view_is

@@ -52,7 +52,7 @@ returns-clause-brought c =
     let entry = entry_of c.args.stamp c.args.set.work.project (change.BucketDone c.args.set.work.version c.args.set.work.cell) in
     tells_brought c.args.self.now.settings c.args.self.now.journal c.bring_set.new.state.entries.items entry _
     (subst (λ (b : BookState). IsBrought b.settings b.journal entry c.bring_set.new.state.entries.items) c.self.view_is c.in_ok-bring_set.ensures.brought)
-    (ap₂ ltb (c.len-before.ensures ∙ ap (λ (b : BookState). length b.journal) c.self.view_is) c.len.ensures)
+    (ap₂ ltb (c.len-before.ensures ∙ c.self.inside.state.entries.ok.0 ∙ ap (λ (b : BookState). length b.journal) c.self.view_is) (c.len.ensures ∙ c.bring_set.new.state.entries.ok.0))
 
 pub returns-clause-settings : goal.returns-clause-settings
 returns-clause-settings c = c.bring_set.ensures.settings ∙ ap (λ (b : BookState). b.settings) c.self.view_is
