@@ -11,3 +11,7 @@ pub mod Live
 pub mod Given
 pub mod Histories
 pub mod Staying
+pub mod Made
+pub mod Among
+pub mod Again
+pub mod BucketsAgain

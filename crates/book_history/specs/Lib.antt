@@ -12,3 +12,5 @@ pub mod Requests
 pub mod Legal
 pub mod HistoryLaws
 pub mod Runs
+pub mod MadeEntries
+pub mod AcceptedChanges

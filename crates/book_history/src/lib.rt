@@ -15,7 +15,9 @@ pub use book_fault::{BookFault, StoreWhat};
 pub use book_turn::object::Stamp;
 pub use changes::{Change, Entry};
 pub use clash_publish::{Horizon, LIVE_VERSIONS};
-pub use laws::{grids_are_one, requests_stay_legal, work_stays_given};
+pub use laws::{
+    grids_are_one, made_are_accepted, made_is_accepted, requests_stay_legal, work_stays_given,
+};
 pub use limits::{
     Limits, MOST_COMMENTS, MOST_ENTRIES, MOST_PROJECTS, MOST_STORED_TRIANGLES, MOST_TEXT,
     MOST_TOPICS, MOST_VIEWPOINTS, Settings,

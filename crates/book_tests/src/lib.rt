@@ -2,6 +2,8 @@
 #![tactic(auto)]
 
 #[cfg(test)]
+mod brought_tests;
+#[cfg(test)]
 mod desk;
 #[cfg(test)]
 mod project_tests;

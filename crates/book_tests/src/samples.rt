@@ -135,9 +135,8 @@ pub fn to_remove(alloc: Global, name: &str) -> Result<BookRequest, AllocError>
 }
 
 /// Any two elements clash within so many millimetres.
-pub fn to_set_rules(alloc: Global, distance: u32) -> Result<BookRequest, AllocError>
+pub fn rules_within(alloc: Global, distance: u32) -> Result<Rules, AllocError>
     requires { distance < 1000 }
-    ensures { IfOk result IsFree }
 {
     let rule = Rule {
         a: ClassTest::Any,
@@ -151,9 +150,17 @@ pub fn to_set_rules(alloc: Global, distance: u32) -> Result<BookRequest, AllocEr
     };
     let mut list = Vec::new(alloc);
     list.push(rule)?;
+    Ok(Rules::from_vec(list))
+}
+
+/// The same, asked for.
+pub fn to_set_rules(alloc: Global, distance: u32) -> Result<BookRequest, AllocError>
+    requires { distance < 1000 }
+    ensures { IfOk result IsFree }
+{
     Ok(BookRequest::SetRules {
         project: id_of(1, 0),
-        rules: Rules::from_vec(list),
+        rules: rules_within(alloc, distance)?,
         weight: 45,
     })
 }

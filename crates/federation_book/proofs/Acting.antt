@@ -11,6 +11,7 @@ use Rattle.book_history.specs.declared.requests.BookRequest.{BookRequest}
 use Rattle.book_history.specs.declared.requests.BookCall.{BookCall}
 use Rattle.book_history.specs.History.{IsBefore}
 use Rattle.book_history.specs.Legal.{IsGiven}
+use Rattle.book_history.specs.MadeEntries.{AreMade}
 use Rattle.book_history.specs.declared.replies.ReplyBody.{ReplyBody}
 use Rattle.book_history.specs.Refusals.{project_of}
 use Rattle.book_history.specs.Requests.{BookState, Outcome, added_by, entry_by, body_of, outcome_of}
@@ -21,7 +22,7 @@ use Rattle.federation_book.specs.inner.Done.{IsDone, IsTold}
 use Rattle.federation_book.specs.declared.project.Project.{Project}
 use Rattle.federation_book.proofs.Answering.{numbered, nothing_added}
 
-later : (turn : ℕ) (h : List Entry) → IsBefore turn h → IsBefore (turn + 1) h
+pub later : (turn : ℕ) (h : List Entry) → IsBefore turn h → IsBefore (turn + 1) h
 later turn h before = All-weaker (λ (e : Entry). e.stamp.turn < turn) (λ (e : Entry). e.stamp.turn < turn + 1) (λ e lt. omega (arith, lt)) h before
 
 own_before : (turn : ℕ) (es : List Entry) → AreOf turn es → IsBefore (turn + 1) es
@@ -43,6 +44,10 @@ pub given_after : (before after : BookState) (more : List Entry) → after.setti
 given_after before after more same is = λ work given.
     subst (λ s. IsGiven s after.journal work) (sym same)
     (subst (λ j. IsGiven before.settings j work) (sym is) (given_later before.settings before.journal more work given))
+
+-- histories of the same entries
+pub made_same : (s t : Settings) (h k : List Entry) → t ≡ s → k ≡ h → AreMade s h → AreMade t k
+made_same s t h k p q made = subst (λ (x : Settings). AreMade x k) (sym p) (subst (AreMade s) (sym q) made)
 
 on_ok : {A E : Type 0} (r : Result A E) (P : Type 0) → P → OnOk r P
 on_ok (Ok x) P h = h

@@ -10,33 +10,20 @@ use Rattle.bucket_grid.specs.Cells.{IsBucket}
 use Rattle.bucket_grid.specs.Grids.{GridValue}
 use Rattle.bucket_check.specs.Clashes.{is_cell}
 use Rattle.bucket_check.specs.ClashSets.{SetValue}
-use Rattle.bucket_check.proofs.Merged.{same_cell, one_cell}
+use Rattle.bucket_check.proofs.Merged.{one_cell}
 use Rattle.clash_delta.specs.declared.slot.Slot.{Slot}
 use Rattle.clash_delta.specs.BucketProgress.{cells_of, bucket_cells, undone_cells, IsBucketOf, IsDone, IsOf}
 use Rattle.clash_delta.specs.Carried.{IsCarried}
-use Rattle.book_history.specs.VersionBoxes.{boxes_of}
 use Rattle.book_history.specs.Buckets.{buckets_of, buckets_among, is_among}
 use Rattle.book_history.specs.Unmoved.{is_unmoved}
 use Rattle.book_history.specs.Versions.{VersionState, is_done, is_carried, made_after}
 use Rattle.book_history.proofs.OneGrid.{HasParts}
-use Rattle.book_history.proofs.Least.{boxes_are}
+use Rattle.book_history.proofs.Among.{grid_boxes, bucket_among}
 use Rattle.book_history.proofs.Listing.{Below, table_cells, buckets_listed}
 use Rattle.book_history.proofs.Same.{unmoved_tells}
 use Rattle.federation_book.proofs.Slots.{IsOpen, open_among, among_open, done_open, done_or_open}
 
 -- ---- cells of a list
-or_true : (b rest : Bool) → rest ≡ true → (b || rest) ≡ true
-or_true true rest e = refl
-or_true false rest e = e
-
-among_at : (x : Cell) (xs : List Cell) (c : Cell) (k : ℕ) → k < length (x ∷ xs) → get_or (x ∷ xs) k c ≡ c → (Contains xs c → is_among xs c ≡ true) → is_among (x ∷ xs) c ≡ true
-among_at x xs c zero lt e rest = ap (λ t. t || is_among xs c) (subst (λ d. is_cell x d ≡ true) e (same_cell x))
-among_at x xs c (suc k) lt e rest = or_true (is_cell x c) (is_among xs c) (rest (k, omega (arith, lt), e))
-
-pub contains_among : (cells : List Cell) (c : Cell) → Contains cells c → is_among cells c ≡ true
-contains_among [] c h = absurd (omega (arith, h.1))
-contains_among (x ∷ xs) c h = among_at x xs c h.0 h.1 h.2 (λ r. contains_among xs c r)
-
 contains_later : (x : Cell) (xs : List Cell) (c : Cell) → Contains xs c → Contains (x ∷ xs) c
 contains_later x xs c h = (suc h.0, omega (arith, h.1), h.2)
 
@@ -49,14 +36,8 @@ among_contains [] c e = absurd (true≢false (sym e))
 among_contains (x ∷ xs) c e = contains_by x xs c (is_cell x c) refl e (λ h. among_contains xs c h)
 
 -- ---- a grid and its version
-pub grid_boxes : (g : GridValue) → HasParts g → g.boxes ≡ boxes_of g.version
-grid_boxes g h = boxes_are g.version g.boxes h.boxed
-
 pub grid_cells : (g : GridValue) → HasParts g → bucket_cells g ≡ buckets_of g.version
 grid_cells g h = table_cells g.boxes g.buckets h.near h.table ∙ ap buckets_among (grid_boxes g h)
-
-pub bucket_among : (g : GridValue) → HasParts g → (c : Cell) → IsBucket g.boxes c → is_among (buckets_of g.version) c ≡ true
-bucket_among g h c b = contains_among (buckets_of g.version) c (subst (λ xs. Contains (buckets_among xs) c) (grid_boxes g h) ((buckets_listed g.boxes h.near).all c b))
 
 pub among_bucket : (g : GridValue) → HasParts g → (c : Cell) → is_among (buckets_of g.version) c ≡ true → IsBucket g.boxes c
 among_bucket g h c e = (buckets_listed g.boxes h.near).each c (subst (λ xs. Contains (buckets_among xs) c) (sym (grid_boxes g h)) (among_contains (buckets_of g.version) c e))
@@ -85,6 +66,17 @@ module _ (g : GridValue) (h : HasParts g) (slots : List Slot) (is : IsOf g slots
       let n = length-map slots (λ (s : Slot). s.cell) in
       let in_cells : Contains (cells_of slots) c = (b.0, omega (arith, b.2, n), get_or-map (λ (s : Slot). s.cell) slots b.0 b.1 c b.2 ∙ ap (λ (s : Slot). s.cell) b.3 ∙ b.4) in
       (buckets_listed g.boxes h.near).each c (subst (λ l. Contains l c) (is.buckets ∙ table_cells g.boxes g.buckets h.near h.table) in_cells)
+
+  -- the buckets of the version are those of the progress
+  pub among_of : (c : Cell) → IsBucketOf slots c → is_among (buckets_of g.version) c ≡ true
+  among_of c b = bucket_among g h c (bucket_from c b)
+
+  pub among_none : (c : Cell) → (IsBucketOf slots c → ⊥) → is_among (buckets_of g.version) c ≡ false
+  among_none c not = by (is_among (buckets_of g.version) c) refl
+    where
+      by : (b : Bool) → is_among (buckets_of g.version) c ≡ b → b ≡ false
+      by true e = absurd (not (bucket_of c (among_bucket g h c e)))
+      by false e = refl
 
   -- a bucket that is done, by the progress and by what is left
   pub done_then : (c : Cell) → is_done (record { content = g.version; undone = undone_cells slots }) c ≡ true → IsBucket g.boxes c × IsDone slots c

@@ -21,9 +21,9 @@ use Rattle.book_history.specs.History.{state_of, live_of, left_in, left_all, pro
 use Rattle.book_history.specs.Refusals.{first_of, dropped, done_before, left_if, left_after}
 use Rattle.book_history.specs.Requests.{Accepted, refused_or, finished}
 use Rattle.book_history.proofs.OneGrid.{HasParts}
+use Rattle.book_history.proofs.Among.{bucket_among}
 use Rattle.federation_book.specs.declared.project.Project.{Project}
 use Rattle.federation_book.specs.KeptProjects.{KeepsProject}
-use Rattle.federation_book.proofs.Carrying.{bucket_among}
 use Rattle.federation_book.proofs.Reading.{IsPlaced}
 use Rattle.federation_book.proofs.Taking.{number_at, numbers_length}
 

@@ -19,3 +19,5 @@ pub mod Noted
 pub mod Counted
 pub mod Clashing
 pub mod Applied
+pub mod Brought
+pub mod OneBucket

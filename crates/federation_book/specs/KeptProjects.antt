@@ -9,6 +9,7 @@ use Rattle.book_history.specs.Versions.{live_in}
 use Rattle.book_history.specs.Projects.{ProjectState}
 use Rattle.book_history.specs.History.{state_of, left_all, IsHistory}
 use Rattle.book_history.specs.Weights.{triangles_in, text_in}
+use Rattle.book_history.specs.MadeEntries.{AreMade}
 use Rattle.federation_book.specs.declared.project.Project.{Project}
 use Rattle.federation_book.specs.declared.state.State.{State}
 
@@ -36,6 +37,11 @@ pub record IsKept (s : State) : Type 0 where
   pub text : s.text ≡ text_in s.entries.items
   pub within : IsWithinStated s.limits
   pub room : length s.entries.items + left_all (length s.projects.items) s.entries.items ≤ s.limits.journal
+
+-- the projects are kept, and each entry of the journal was made by a request at the entries before it
+pub record IsBook (s : State) : Type 0 where
+  pub kept : IsKept s
+  pub made : AreMade (settings_of s) s.entries.items
 
 -- the entry, where nothing refuses it
 abbrev pub unless_refused : Option BookFault → Entry → List Entry

@@ -1,19 +1,27 @@
 //! The book.
-ghost use Rattle.std.specs.Prelude.{◌≡◌, ◌≤◌, ◌+◌, ◌++◌, [], IfOk, OnOk, OnErr};
+ghost use Rattle.std.specs.Prelude.{◌≡◌, ◌≤◌, ◌+◌, ◌++◌, [], IsSome, IfOk, OnOk, OnErr};
+ghost use Rattle.book_history.specs.declared.changes.Change.{Change};
 ghost use Rattle.book_history.specs.declared.limits.TheConstants.{MOST_PROJECTS};
 ghost use Rattle.book_history.specs.Settings.{IsWithinStated};
 ghost use Rattle.book_history.specs.History.{left_all, horizon_of, IsBefore, IsHistory};
-ghost use Rattle.book_history.specs.Requests.{ahead, without_turn, reply_of, added_by};
-ghost use Rattle.book_history.specs.Legal.{IsLegal};
-ghost use Rattle.federation_book.specs.KeptProjects.{IsKept, settings_of};
+ghost use Rattle.book_history.specs.Requests.{ahead, without_turn, reply_of, added_by, entry_of};
+ghost use Rattle.book_history.specs.Legal.{IsLegal, IsGiven};
+ghost use Rattle.book_history.specs.MadeEntries.{IsBuilt, AreMade};
+ghost use Rattle.book_history.specs.AcceptedChanges.{request_for, Brings, IsWorkOf};
 
+use crate::applying::{bring, bring_set};
 use crate::asking::act_on;
 use crate::project::Project;
 use crate::state::State;
+use crate::version::know_whole;
+use crate::working::work_of;
+use bim_model::Shared;
 use book_history::{
     BookCall, BookFault, BookReply, BookRequest, Entry, Limits, MOST_PROJECTS, ReplyBody, Settings,
-    Stamp,
+    Stamp, WorkOrder,
 };
+use bucket_check::BucketSet;
+use bucket_grid::Cell;
 use std::alloc::{AllocError, Global};
 
 // Why a call is refused for the turn that it gives, at its own turn.
@@ -40,13 +48,23 @@ pub struct Book {
 
 impl std::marker::Model for Book {
     ghost use Rattle.book_history.specs.Requests.{BookState};
-    ghost use Rattle.federation_book.specs.KeptProjects.{IsKept, settings_of};
+    ghost use Rattle.federation_book.specs.KeptProjects.{IsBook, settings_of};
 
     ghost Value = { BookState };
 
     ghost view = { λ b. record { settings = settings_of b.state; journal = b.state.entries.items } };
 
-    ghost invariant = { λ b. IsKept b.state };
+    ghost invariant = { λ b. IsBook b.state };
+}
+
+// What is known of every request.
+fn know_built(request: &BookRequest)
+    ensures { IsBuilt request.now }
+{
+    match request {
+        BookRequest::Finish { set } => know_whole(set.get().work().grid.get()),
+        _ => {}
+    }
 }
 
 impl Book {
@@ -74,10 +92,11 @@ impl Book {
         })
     }
 
-    /// The accepted changes by rising turn, lent.
+    /// The accepted changes by rising turn, lent. Each was made by a request at those before it.
     pub fn journal(&self) -> &[Entry]
         ensures entries { result.now ≡ self.now.journal }
         ensures rising { IsHistory result.now }
+        ensures made { AreMade self.now.settings result.now }
     {
         self.state.entries.as_slice()
     }
@@ -97,6 +116,19 @@ impl Book {
         ensures { result ≡ left_all self.now.settings.projects self.now.journal }
     {
         self.state.left_all()
+    }
+
+    /// The bucket of a cell of a live version, to be checked, whether it is done or not. None exactly where the version
+    /// isn't one of a project's last sixteen, or the cell is no bucket of it.
+    pub fn work_of(
+        &self,
+        project: u32,
+        version: u64,
+        cell: Cell,
+    ) -> Result<Option<WorkOrder>, AllocError>
+        ensures { IfOk result (IsWorkOf self.now.settings self.now.journal project version cell) }
+    {
+        work_of(&self.state, project, version, cell)
     }
 
     /// Answers a call at a turn above those of the journal, and adds its entry if it accepts a change. A call that
@@ -147,10 +179,46 @@ impl Book {
         ensures after { IsBefore (stamp.turn + 1) self.new.journal }
         ensures err { OnErr result (self.new ≡ self.old) }
     {
+        know_built(&request);
         let body = act_on(&mut self.state, stamp, request)?;
         Ok(BookReply {
             body,
             horizon: self.state.horizon(),
         })
+    }
+
+    /// Brings an entry that another book made, of a turn above those of the journal, and tells whether it was added:
+    /// it is where a request for its change would be accepted here. An `Err` leaves the book as it was. The condition
+    /// is that the entry isn't of a bucket that is done: that is brought by the bucket's clashes.
+    pub fn bring(&mut self, entry: Entry) -> Result<bool, AllocError>
+        requires after { IsBefore entry.stamp.turn self.old.journal }
+        requires asked { IsSome (request_for entry.project entry.change) }
+        ensures brought { IfOk result (λ added.
+            Brings self.old.settings self.old.journal entry added self.new.journal) }
+        ensures settings { self.new.settings ≡ self.old.settings }
+        ensures after { IsBefore (entry.stamp.turn + 1) self.new.journal }
+        ensures err { OnErr result (self.new ≡ self.old) }
+    {
+        let before = self.state.entries.len();
+        bring(&mut self.state, entry)?;
+        Ok(self.state.entries.len() > before)
+    }
+
+    /// Brings that a bucket is done, as an entry that another book made says, at the entry's turn. The bucket's
+    /// clashes are what was found here. It tells whether the entry was added: it is where the bucket is one of a live
+    /// version and still to be checked. An `Err` leaves the book as it was.
+    pub fn bring_bucket(&mut self, stamp: Stamp, set: Shared<BucketSet>) -> Result<bool, AllocError>
+        requires after { IsBefore stamp.turn self.old.journal }
+        requires given { IsGiven self.old.settings self.old.journal set.work }
+        ensures brought { let entry = entry_of stamp set.work.project
+            (Change.BucketDone set.work.version set.work.cell) in
+            IfOk result (λ added. Brings self.old.settings self.old.journal entry added self.new.journal) }
+        ensures settings { self.new.settings ≡ self.old.settings }
+        ensures after { IsBefore (stamp.turn + 1) self.new.journal }
+        ensures err { OnErr result (self.new ≡ self.old) }
+    {
+        let before = self.state.entries.len();
+        bring_set(&mut self.state, stamp, set)?;
+        Ok(self.state.entries.len() > before)
     }
 }

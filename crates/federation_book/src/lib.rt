@@ -1,6 +1,7 @@
 //! The book: the history of all projects, and what follows from it.
 #![tactic(auto)]
 
+mod applying;
 mod asking;
 mod book;
 mod clash_topics;

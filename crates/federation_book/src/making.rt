@@ -286,11 +286,36 @@ pub fn set_rules(
     ensures kept { IsKept state.new }
     ensures err { OnErr result (state.new.entries.items ≡ state.old.entries.items) }
 {
+    let alloc = *state.entries.allocator();
+    let rules = Shared::new(alloc, rules)?;
+    set_shared_rules(state, number, stamp, rules, weight)
+}
+
+/// Sets the rules, which others may hold too.
+pub fn set_shared_rules(
+    state: &mut State,
+    number: Option<u32>,
+    stamp: Stamp,
+    rules: Shared<Rules>,
+    weight: u64,
+) -> Result<ReplyBody, AllocError>
+    requires kept { IsKept state.old }
+    requires after { IsBefore stamp.turn state.old.entries.items }
+    requires number { IfSome number (λ n. (1 ≤ n) × (n ≤ length state.old.projects.items)) }
+    ensures reply { let outcome = in_project number
+        (changed (settings_of state.old) state.old.entries.items (Change.SetRules rules weight)) in
+        IfOk result (λ body. body ≡ body_of state.old.entries.items outcome) }
+    ensures added { let outcome = in_project number
+        (changed (settings_of state.old) state.old.entries.items (Change.SetRules rules weight)) in
+        OnOk result (state.new.entries.items ≡ state.old.entries.items ++ listed (entry_by stamp outcome)) }
+    ensures settings { settings_of state.new ≡ settings_of state.old }
+    ensures kept { IsKept state.new }
+    ensures err { OnErr result (state.new.entries.items ≡ state.old.entries.items) }
+{
     let Some(number) = number else {
         return Ok(ReplyBody::Refused(BookFault::NoProject));
     };
     let alloc = *state.entries.allocator();
-    let rules = Shared::new(alloc, rules)?;
     let project = state.project(number);
     let before = project.newest_version();
     let next = before.snapshot().get().with_rules(alloc, rules.share()?)?;

@@ -1,11 +1,13 @@
 //! A version as the book keeps it.
-ghost use Rattle.std.specs.Prelude.{◌≡◌, ◌≤◌, IfOk, length, map, slice_get, option_map, []};
+ghost use Rattle.std.specs.Prelude.{◌≡◌, ◌≤◌, true, false, IfOk, MatchOption, length, map, slice_get, option_map, []};
 ghost use Rattle.bim_model.specs.Keys.{subjects_of};
 ghost use Rattle.bucket_grid.specs.Cells.{IsBucket};
 ghost use Rattle.bucket_grid.specs.declared.cell.Cell.{Cell};
+ghost use Rattle.book_history.specs.Buckets.{buckets_of, is_among};
 ghost use Rattle.book_history.specs.Orders.{OrderValue};
 ghost use Rattle.book_history.specs.Versions.{nothing, is_done, with_done, made_after};
 ghost use Rattle.book_history.specs.Requests.{order_at};
+ghost use Rattle.book_history.specs.HistoryLaws.{IsWhole};
 ghost use Rattle.book_history.proofs.OneGrid.{HasParts};
 
 use bim_model::{Rules, Shared, Snapshot, know};
@@ -39,6 +41,17 @@ impl Model for KeptVersion {
 
     ghost invariant = { λ v. (v.grid.version ≡ v.snapshot) × IsOf v.grid v.progress
         × IfSome v.published (λ (p : Version). p ≡ v.snapshot) };
+}
+
+/// What is known of every grid: all that it holds is that of its version.
+pub fn know_whole(grid: &Grid)
+    ensures { IsWhole grid.now }
+{
+    know(grid.models());
+    know(grid.places());
+    know(grid.boxes());
+    know(grid.buckets());
+    know(grid.memberships());
 }
 
 /// What is known of every grid.
@@ -151,6 +164,29 @@ impl KeptVersion {
             }))),
             None => Ok(None),
         }
+    }
+
+    /// The order for the bucket of a cell, whether it is checked or not. None where the cell is no bucket.
+    pub fn order_at(
+        &self,
+        project: u32,
+        version: u64,
+        cell: Cell,
+    ) -> Result<Option<WorkOrder>, AllocError>
+        ensures { let there = is_among (buckets_of self.now.content) cell in
+            IfOk result (λ order. MatchOption order (there ≡ false)
+            (λ o. (there ≡ true) × (o ≡ order_at project version self.now.content cell))) }
+    {
+        know_grid(self.grid.get());
+        if !self.progress.is_bucket(cell) {
+            return Ok(None);
+        }
+        Ok(Some(WorkOrder::of(BucketWork {
+            project,
+            version,
+            cell,
+            grid: self.grid.share()?,
+        })))
     }
 
     /// Takes the set of a bucket, and says how many are to be checked then.

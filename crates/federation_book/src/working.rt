@@ -1,10 +1,12 @@
 //! Buckets that are given out to be checked, and brought back.
-ghost use Rattle.std.specs.Prelude.{◌≡◌, ◌≤◌, ◌<◌, ◌+◌, ◌-◌, ◌++◌, length, slice_index_or, IfOk, OnOk, OnErr};
+ghost use Rattle.std.specs.Prelude.{◌≡◌, ◌↔◌, ◌≤◌, ◌<◌, ◌+◌, ◌-◌, ◌++◌, length, slice_index_or, IsTrue, IfOk, OnOk, OnErr};
 ghost use Rattle.book_turn.specs.Entries.{listed};
+ghost use Rattle.clash_publish.specs.declared.horizon.TheConstants.{LIVE_VERSIONS};
 ghost use Rattle.book_history.specs.Orders.{OrderValue};
 ghost use Rattle.book_history.specs.History.{left_in, IsBefore};
 ghost use Rattle.book_history.specs.Requests.{orders_from, all_orders, order_for, finished, body_of, entry_by};
 ghost use Rattle.book_history.specs.Legal.{IsGiven};
+ghost use Rattle.book_history.specs.AcceptedChanges.{IsWorkOf};
 ghost use Rattle.federation_book.specs.KeptProjects.{IsKept, settings_of};
 
 use crate::project::{Project, left_in};
@@ -12,8 +14,9 @@ use crate::project_reads::{dropped, place_of};
 use crate::state::State;
 use crate::version::know_grid;
 use bim_model::{Shared, know};
-use book_history::{BookFault, Change, Entry, ReplyBody, Stamp, WorkOrder};
+use book_history::{BookFault, Change, Entry, LIVE_VERSIONS, ReplyBody, Stamp, WorkOrder};
 use bucket_check::BucketSet;
+use bucket_grid::Cell;
 use std::alloc::AllocError;
 
 // The order for the bucket at a place among those of a project that are to be checked, by falling version and
@@ -57,6 +60,37 @@ pub fn take_work(state: &State, seat: u32) -> Result<ReplyBody, AllocError>
         place -= left;
     }
     unreachable!()
+}
+
+// Whether a version of the number is one of the last sixteen.
+fn is_live(project: &Project, version: u64) -> bool
+    ensures { IsTrue result
+        ↔ (version ≤ project.now.newest) × (project.now.newest < version + LIVE_VERSIONS) }
+{
+    version <= project.newest && project.newest - version < LIVE_VERSIONS
+}
+
+/// The bucket of a cell of a live version, whether it is checked or not.
+pub fn work_of(
+    state: &State,
+    number: u32,
+    version: u64,
+    cell: Cell,
+) -> Result<Option<WorkOrder>, AllocError>
+    requires { IsKept state.now }
+    ensures { IfOk result (IsWorkOf (settings_of state.now) state.now.entries.items number version cell) }
+{
+    if number == 0 {
+        return Ok(None);
+    }
+    if number as usize > state.projects.len() {
+        return Ok(None);
+    }
+    let project = state.project(number);
+    if !is_live(project, version) {
+        return Ok(None);
+    }
+    project.live[place_of(project, version)].order_at(number, version, cell)
 }
 
 /// Takes the clashes of a bucket.

@@ -7,11 +7,12 @@ use Rattle.book_history.specs.declared.replies.ReplyBody.{ReplyBody}
 use Rattle.book_history.specs.History.{IsBefore, horizon_of}
 use Rattle.book_history.specs.Legal.{IsLegal}
 use Rattle.book_history.specs.Requests.{BookState, without_turn, added_by, body_of, outcome_of}
-use Rattle.federation_book.proofs.Acting.{after_call, after_none, on_err}
+use Rattle.book_history.proofs.Made.{made_after}
+use Rattle.federation_book.proofs.Acting.{after_call, after_none, made_same, on_err}
 use Rattle.federation_book.proofs.book.Book.answer.Goals as goal
 
 pub act_on-requires-clause-kept : goal.act_on-requires-clause-kept
-act_on-requires-clause-kept c = c.self.invariant
+act_on-requires-clause-kept c = c.self.invariant.kept
 
 pub act_on-requires-clause-after : goal.act_on-requires-clause-after
 act_on-requires-clause-after c = subst (IsBefore c.args.stamp.turn) (sym (ap (λ (b : BookState). b.journal) c.self.view_is)) c.requires.after
@@ -20,7 +21,10 @@ pub act_on-requires-clause-legal : goal.act_on-requires-clause-legal
 act_on-requires-clause-legal c = subst (λ (b : BookState). IsLegal b.settings b.journal c.args.request) (sym c.self.view_is) c.requires.legal
 
 pub invariant_of-self : goal.invariant_of-self
-invariant_of-self c = c.act_on.ensures.kept
+invariant_of-self c = record {
+  kept = c.act_on.ensures.kept;
+  made = made_same _ _ _ _ c.act_on.ensures.settings c.in_err-body.ensures.err c.self.invariant.made;
+}
 
 pub returns-in_err-body-clause-settings : goal.returns-in_err-body-clause-settings
 returns-in_err-body-clause-settings c = c.act_on.ensures.settings ∙ ap (λ (b : BookState). b.settings) c.self.view_is
@@ -35,7 +39,14 @@ returns-in_err-body-clause-err c =
     (ap₂ (λ (s : Settings) (j : List Entry). (let r : BookState = record { settings = s; journal = j } in r)) c.act_on.ensures.settings c.in_err-body.ensures.err ∙ c.self.view_is)
 
 pub invariant_of-self-2 : goal.invariant_of-self-2
-invariant_of-self-2 c = c.act_on.ensures.kept
+invariant_of-self-2 c =
+    let legal = subst (λ (b : BookState). IsLegal b.settings b.journal c.args.request) (sym c.self.view_is) c.requires.legal in
+    record {
+      kept = c.act_on.ensures.kept;
+      made =
+          made_same _ _ _ _ c.act_on.ensures.settings c.in_ok-body.ensures.done.added
+          (made_after _ _ c.args.stamp c.args.request c.self.invariant.made c.know_built.ensures legal);
+    }
 
 pub returns-clause-added : goal.returns-clause-added
 returns-clause-added c =

@@ -1,9 +1,11 @@
-use Rattle.std.proofs.Common.{◌≡◌, ℕ, List, length, refl, ap₂, arith}
+use Rattle.std.proofs.Common.{◌≡◌, ℕ, List, length, refl, sym, ap₂, subst, arith}
 use Rattle.std.proofs.lemmas.Grind.{common_steps}
 use Rattle.book_history.specs.declared.changes.Entry.{Entry}
 use Rattle.book_history.specs.declared.limits.Settings.{Settings}
 use Rattle.book_history.specs.Requests.{BookState}
+use Rattle.book_history.specs.MadeEntries.{AreMade}
 use Rattle.federation_book.specs.declared.state.State.{State}
+use Rattle.federation_book.specs.KeptProjects.{settings_of}
 use Rattle.federation_book.proofs.Keeping.{kept_more}
 use Rattle.federation_book.proofs.Starting.{new_kept}
 use Rattle.federation_book.proofs.book.Book.new.Goals as goal
@@ -20,7 +22,10 @@ invariant_of-result c =
     let count = c.loop-number.invariant.count in
     let end = c.loop-number.auto._number-end in
     let most = c.requires.high in
-    new_kept state c.loop-number.invariant.kept (omega (arith, count, end, most)) c.new-2.ensures.items refl refl c.requires.limits
+    record {
+      kept = new_kept state c.loop-number.invariant.kept (omega (arith, count, end, most)) c.new-2.ensures.items refl refl c.requires.limits;
+      made = subst (AreMade (settings_of state)) (sym c.new-2.ensures.items) tt;
+    }
 
 pub returns : goal.returns
 returns c =
