@@ -127,8 +127,7 @@ class Text:
         return found
 
     def is_cited_by_check(self, rest: str, word: str, indent: int) -> bool:
-        """Whether the check itself cites the name: an answer to a goal, or a field of one, or what a
-        proof by hand proves."""
+        """Whether the check cites it: an answer to a goal, a field of one, or a proof by hand."""
         is_goal = CITED_BY_CHECK.search(rest) or CITED_BY_CHECK.search(word)
         by_hand = BY_HAND.search(f"{self.path} {word}")
         return is_goal is not None or by_hand is not None or (indent > 0 and self.is_answer)

@@ -1,35 +1,25 @@
 -- What contracts see of connections, doors and hosts over sockets.
 use Rattle.std.specs.Prelude.{ℕ, List, [], Bool, true, false, Option, None, Some, map}
 use Rattle.bim_io.specs.StreamViews.{SourceSeen, SinkSeen}
+use Rattle.bim_io.specs.MemoryStreams.{ReaderState, WriterState}
 use Rattle.bim_net.specs.declared.hosts.Opening.{Opening}
 use Rattle.bim_net.specs.ConnectionViews.{EndedLink, DoorSeen}
 use Rattle.bim_net.specs.Hosts.{HostSeen}
 
--- of what comes from a socket: the bytes that its reads gave, whether its end was answered, and how often it has failed
-pub record TcpSourceState : Type 0 where
-  pub given : List ℕ
-  pub ended : Bool
-  pub faults : ℕ
-
--- of what goes to a socket: the bytes that its writes took, and how often it has failed
-pub record TcpSinkState : Type 0 where
-  pub taken : List ℕ
-  pub faults : ℕ
-
 -- a socket from which nothing was read
-abbrev pub new_source : TcpSourceState
+abbrev pub new_source : ReaderState
 new_source = record { given = []; ended = false; faults = 0 }
 
 -- a socket to which nothing was written
-abbrev pub new_sink : TcpSinkState
+abbrev pub new_sink : WriterState
 new_sink = record { taken = []; faults = 0 }
 
 -- what the one shows: the bytes that it gave, and not those that are left
-abbrev pub source_seen : TcpSourceState → SourceSeen
+abbrev pub source_seen : ReaderState → SourceSeen
 source_seen s = record { left = None; given = Some s.given; most = None; ended = s.ended; faults = s.faults }
 
 -- what the other shows: the bytes that it took
-abbrev pub sink_seen : TcpSinkState → SinkSeen
+abbrev pub sink_seen : WriterState → SinkSeen
 sink_seen s = record { held = Some s.taken; faults = s.faults }
 
 -- of a door: which one it is, the connections that were given back, oldest first, how many it has given, whether it has

@@ -16,9 +16,9 @@ pub struct TcpSource {
 }
 
 impl Model for TcpSource {
-    ghost use Rattle.bim_sockets.specs.Sockets.{TcpSourceState};
+    ghost use Rattle.bim_io.specs.MemoryStreams.{ReaderState};
 
-    ghost Value = { TcpSourceState };
+    ghost Value = { ReaderState };
 
     ghost view = { λ s. record { given = s.reader; ended = s.ended; faults = s.faults } };
 }
@@ -68,9 +68,9 @@ pub struct TcpSink {
 }
 
 impl Model for TcpSink {
-    ghost use Rattle.bim_sockets.specs.Sockets.{TcpSinkState};
+    ghost use Rattle.bim_io.specs.MemoryStreams.{WriterState};
 
-    ghost Value = { TcpSinkState };
+    ghost Value = { WriterState };
 
     ghost view = { λ s. record { taken = s.writer; faults = s.faults } };
 }
