@@ -19,8 +19,8 @@ use book_history::{BookRequest, Wanted};
 use clash_rules::{RuleError, RuleFault, from_json};
 use http_frame::HttpRequest;
 use http_routes::{
-    PageError, QueryName, Resource, RoutePath, Routes, grid_asked, has_method, is_same, page_asked,
-    split_target,
+    ListAsked, PageError, QueryName, Resource, RoutePath, Routes, grid_asked, has_method, is_same,
+    page_asked, split_target,
 };
 use serde_json::Value;
 use std::alloc::Global;
@@ -36,6 +36,10 @@ pub enum RequestFault {
     Encoding,
     /// H11: a parameter of the query stands twice, or has a value that it may not have.
     Query { name: QueryName },
+    /// H14: the text of `$filter` goes on at this place as no filter does.
+    Filter { at: u64 },
+    /// H15: the text of `$orderby` goes on at this place as no order does.
+    Order { at: u64 },
     /// H9: the body is no JSON text, or no object.
     BadJson,
     /// A fault of the members of clash rules.
@@ -62,6 +66,11 @@ pub enum Action {
         name: Text,
         mode: Mode,
         body: Bytes,
+    },
+    /// The topics of a project are to be listed as a query asks for; its texts aren't read yet.
+    AskList {
+        project: u128,
+        asked: ListAsked,
     },
 }
 

@@ -9,7 +9,7 @@ use Rattle.http_frame.specs.Events.{Begins, Asks, Event, IsRest, IsTold, Spells}
 use Rattle.http_frame.specs.Events as frame
 use Rattle.book_history.specs.declared.changes.Entry.{Entry}
 use Rattle.book_history.specs.declared.requests.BookRequest.{BookRequest}
-use Rattle.book_history.specs.declared.requests.BookRequest.TheVariants.{Upload, ReadClashes}
+use Rattle.book_history.specs.declared.requests.BookRequest.TheVariants.{Upload, ReadClashes, ListTopics}
 use Rattle.book_history.specs.declared.requests.Wanted.TheVariants.{Number}
 use Rattle.book_history.specs.declared.replies.BookReply.{BookReply}
 use Rattle.book_history.specs.History.{at_turn, of_turn, newest_of}
@@ -20,11 +20,13 @@ use Rattle.bim_model.specs.Snapshots.{Version}
 use Rattle.clash_publish.specs.declared.horizon.TheConstants.{LIVE_VERSIONS}
 use Rattle.bcf_http.specs.declared.asked.RequestFault.{RequestFault}
 use Rattle.bcf_http.specs.declared.asked.Action.{Action}
-use Rattle.bcf_http.specs.declared.asked.Action.TheVariants.{Call, Build}
+use Rattle.bcf_http.specs.declared.asked.Action.TheVariants.{Call, Build, AskList}
 use Rattle.bcf_http.specs.declared.answers.Answer.{Answer}
 use Rattle.bcf_http.specs.declared.answers.Answer.TheVariants as answer
 use Rattle.bcf_http.specs.ReplyKinds.{kind_of, no_kind}
 use Rattle.bcf_http.specs.Asked.{asked_by}
+use Rattle.bcf_http.specs.ListRequests.{AsksListing, RefusesListing}
+use Rattle.odata_filter.specs.declared.listing.Listing.{Listing}
 use Rattle.bcf_http.specs.Answers.{IsResponse}
 use Rattle.bim_session.specs.declared.talk.TheConstants.{MOST_REQUESTS}
 use Rattle.bim_session.specs.ShelfNotes.{named_project, project_read, set_told}
@@ -86,23 +88,45 @@ pub record Asking : Type 0 where
 abbrev pub asking : Standing → ℕ → HttpRequest → Asking
 asking standing moment request = record { standing = standing; moment = moment; request = request }
 
--- the call of the book that what is asked for means: itself, or the upload of a model that the profile
--- accepts
+-- the call of the book that what is asked for means: itself, the upload of a model that the profile accepts, or that for
+-- all topics of a project, whose listing is good
 abbrev pub MeansCall : Result Action RequestFault → BookRequest → Type 0
 MeansCall (Ok (Call asked)) call = asked ≡ call
 MeansCall (Ok (Build project name mode body)) call =
     (model : List Element) × Profile body mode (Ok model) × (Upload project name model ≡ call)
+MeansCall (Ok (AskList project asked)) call =
+    (listing : Listing) × AsksListing asked listing × (ListTopics project ≡ call)
 MeansCall (Err fault) call = ⊥
 
 -- a request means this call of the book at a moment
 abbrev pub Means : ℕ → HttpRequest → BookRequest → Type 0
 Means moment request call = MeansCall (asked_by moment request) call
 
--- how what is asked for is refused: by the request's fault, or by the one that the profile finds in the body
+-- how the topics of the reply to what is asked for are listed, if it is a list of topics
+abbrev pub ListsBy : Result Action RequestFault → Option Listing → Type 0
+ListsBy (Ok (Call asked)) listing = listing ≡ None
+ListsBy (Ok (Build project name mode body)) listing = listing ≡ None
+ListsBy (Ok (AskList project asked)) None = ⊥
+ListsBy (Ok (AskList project asked)) (Some listing) = AsksListing asked listing
+ListsBy (Err fault) listing = ⊥
+
+-- the same of a request at a moment
+abbrev pub Lists : ℕ → HttpRequest → Option Listing → Type 0
+Lists moment request listing = ListsBy (asked_by moment request) listing
+
+-- the answer that a reply of the book makes, whose topics may be listed
+abbrev pub answer_by : Option Listing → BookReply → Answer
+answer_by None reply = answer.Book reply
+answer_by (Some listing) reply = answer.Listed reply listing
+
+-- how what is asked for is refused: by the request's fault, by the one that the profile finds in the body, or by that of
+-- the texts that a list is asked for by
 abbrev pub RefusesCall : Result Action RequestFault → Answer → Type 0
 RefusesCall (Ok (Call asked)) refusal = ⊥
 RefusesCall (Ok (Build project name mode body)) refusal =
     (fault : UploadFault) × Profile body mode (Err fault) × (refusal ≡ answer.Built fault)
+RefusesCall (Ok (AskList project asked)) refusal =
+    (fault : RequestFault) × RefusesListing asked fault × (refusal ≡ answer.Refused fault)
 RefusesCall (Err fault) refusal = refusal ≡ answer.Refused fault
 
 -- the request alone refuses itself at a moment, with this answer
@@ -180,7 +204,9 @@ reply_to s step = reply_of s.settings (at_turn step.stamp.turn s.history) step.s
 pub record IsBooked (a : Asking) (bytes : List ℕ) (steps : List Step) (printed : Printed) : Type 0 where
   pub unkept : ¬ (IsKept a)
   pub taken : TakesTurn a steps
-  pub response : IsResponseTo a (answer.Book (reply_to a.standing taken.step))
+  pub listing : Option Listing
+  pub lists : Lists a.moment a.request listing
+  pub response : IsResponseTo a (answer_by listing (reply_to a.standing taken.step))
       (Some taken.step.stamp.turn) bytes
   pub above : a.standing.printed.turn < taken.step.stamp.turn
   pub printed_is : printed ≡ printed_after taken.step (reply_to a.standing taken.step) a.standing.printed

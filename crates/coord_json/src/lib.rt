@@ -10,7 +10,8 @@ mod versions;
 
 pub use clash_values::{clashes_out, pending_out};
 pub use errors::{
-    error_full, error_named, error_newest, error_out, error_place, error_store, error_version,
+    error_at, error_full, error_named, error_newest, error_out, error_place, error_store,
+    error_version,
 };
 pub use fault_values::{rule_fault_out, upload_fault_out};
 pub use fault_words::{
