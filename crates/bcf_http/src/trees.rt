@@ -11,6 +11,7 @@ use crate::asked::RequestFault;
 use bcf_bodies::{BodyFault, comment_out, topic_out, view_out};
 use bcf_topics::Topic;
 use bcf_viewpoints::ViewPart;
+use bim_model::Shared;
 use book_history::{BookFault, ReplyBody, StoreWhat};
 use coord_json::{
     changed_out, clashes_out, error_at, error_full, error_named, error_newest, error_out,
@@ -171,7 +172,7 @@ fn list_out(
     alloc: Global,
     project: u32,
     listing: &Listing,
-    topics: &[Topic],
+    topics: &[Shared<Topic>],
 ) -> Result<Value, AllocError>
     ensures { IfOk result (λ v. IsListTree project listing.now topics.now (view v)) }
 {

@@ -6,6 +6,7 @@ use crate::order_rows::ORDERS;
 use crate::rows::{ListingRow, LongRow, Wanted};
 use crate::sample_topics::sample_topics;
 use bcf_topics::Topic;
+use bim_model::Shared;
 use odata_filter::{Filter, FilterError, Listing, Order};
 use std::alloc::{AllocError, Global};
 use std::mem::drop;
@@ -13,11 +14,11 @@ use std::process::Abort;
 use std::test::Fail;
 
 // Whether these places are those of the topics with these serial numbers.
-fn are_of(places: &[u32], topics: &[Topic], serials: &[u64]) -> bool {
+fn are_of(places: &[u32], topics: &[Shared<Topic>], serials: &[u64]) -> bool {
     for (place, serial) in places.iter().zip(serials) {
         match topics.get(*place as usize) {
             Some(topic) => {
-                if topic.serial != *serial {
+                if topic.get().serial != *serial {
                     return false;
                 }
             }
@@ -31,7 +32,7 @@ fn are_of(places: &[u32], topics: &[Topic], serials: &[u64]) -> bool {
 fn lists(
     alloc: Global,
     listing: Listing,
-    topics: &[Topic],
+    topics: &[Shared<Topic>],
     serials: &[u64],
 ) -> Result<bool, AllocError> {
     let places = listing.places(alloc, topics);
@@ -43,7 +44,7 @@ fn lists(
 fn is_as_wanted(
     alloc: Global,
     read: Result<Listing, FilterError>,
-    topics: &[Topic],
+    topics: &[Shared<Topic>],
     wanted: Wanted,
 ) -> Result<bool, AllocError> {
     match read {
@@ -80,7 +81,10 @@ fn ordered(alloc: Global, text: &[u8]) -> Result<Listing, FilterError> {
 }
 
 // The first filter that isn't as wanted.
-fn wrong_filter(alloc: Global, topics: &[Topic]) -> Result<Option<&'static str>, AllocError> {
+fn wrong_filter(
+    alloc: Global,
+    topics: &[Shared<Topic>],
+) -> Result<Option<&'static str>, AllocError> {
     for (text, wanted) in FILTERS.iter() {
         if !is_as_wanted(alloc, filtered(alloc, text.as_bytes()), topics, *wanted)? {
             return Ok(Some(*text));
@@ -90,7 +94,10 @@ fn wrong_filter(alloc: Global, topics: &[Topic]) -> Result<Option<&'static str>,
 }
 
 // The first order that isn't as wanted.
-fn wrong_order(alloc: Global, topics: &[Topic]) -> Result<Option<&'static str>, AllocError> {
+fn wrong_order(
+    alloc: Global,
+    topics: &[Shared<Topic>],
+) -> Result<Option<&'static str>, AllocError> {
     for (text, wanted) in ORDERS.iter() {
         if !is_as_wanted(alloc, ordered(alloc, text.as_bytes()), topics, *wanted)? {
             return Ok(Some(*text));
@@ -112,7 +119,10 @@ fn long_text(alloc: Global, row: &LongRow) -> Result<Vec<u8>, AllocError> {
 }
 
 // The first long filter that isn't as wanted.
-fn wrong_long_filter(alloc: Global, topics: &[Topic]) -> Result<Option<LongRow>, AllocError> {
+fn wrong_long_filter(
+    alloc: Global,
+    topics: &[Shared<Topic>],
+) -> Result<Option<LongRow>, AllocError> {
     for row in LONG_FILTERS.iter() {
         let text = long_text(alloc, row)?;
         if !is_as_wanted(alloc, filtered(alloc, &text), topics, row.4)? {
@@ -123,7 +133,10 @@ fn wrong_long_filter(alloc: Global, topics: &[Topic]) -> Result<Option<LongRow>,
 }
 
 // The first long order that isn't as wanted.
-fn wrong_long_order(alloc: Global, topics: &[Topic]) -> Result<Option<LongRow>, AllocError> {
+fn wrong_long_order(
+    alloc: Global,
+    topics: &[Shared<Topic>],
+) -> Result<Option<LongRow>, AllocError> {
     for row in LONG_ORDERS.iter() {
         let text = long_text(alloc, row)?;
         if !is_as_wanted(alloc, ordered(alloc, &text), topics, row.4)? {
@@ -159,7 +172,10 @@ fn listing_of(alloc: Global, row: &ListingRow) -> Result<Listing, FilterError> {
 }
 
 // The first listing that isn't as wanted.
-fn wrong_listing(alloc: Global, topics: &[Topic]) -> Result<Option<ListingRow>, AllocError> {
+fn wrong_listing(
+    alloc: Global,
+    topics: &[Shared<Topic>],
+) -> Result<Option<ListingRow>, AllocError> {
     for row in LISTINGS.iter() {
         if !is_as_wanted(alloc, listing_of(alloc, row), topics, Ok(row.4))? {
             return Ok(Some(*row));

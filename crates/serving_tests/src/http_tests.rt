@@ -3,7 +3,7 @@ use bcf_bodies::BodyFault;
 use bcf_http::{Action, Answer, Refusal, ReplyKind, RequestFault, asked_of, to_response};
 use bcf_topics::{CommentIn, Topic, TopicBody};
 use bcf_viewpoints::ViewPart;
-use bim_model::{Author, Bytes, Items, Mode, Moment, Text};
+use bim_model::{Author, Bytes, Items, Mode, Moment, Shared, Text};
 use book_history::{BookFault, BookReply, BookRequest, Horizon, ReplyBody, Wanted};
 use clash_rules::RuleFault;
 use http_frame::{FrameFault, HttpRequest};
@@ -440,8 +440,8 @@ fn made(alloc: Global) -> Result<Answer, AllocError> {
     Ok(replied(ReplyBody::TopicIs(pipe(alloc)?)))
 }
 
-fn pipes(alloc: Global) -> Result<Items<Topic>, AllocError> {
-    let pipe = pipe(alloc)?;
+fn pipes(alloc: Global) -> Result<Items<Shared<Topic>>, AllocError> {
+    let pipe = Shared::new(alloc, pipe(alloc)?)?;
     let mut topics = Items::new(alloc);
     match topics.push(pipe) {
         Ok(()) => Ok(topics),
