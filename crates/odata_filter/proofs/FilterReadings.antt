@@ -1,5 +1,5 @@
 -- The steps of filters read their grammar.
-use Rattle.std.proofs.Common.{◌≡◌, ℕ, zero, ◌<◌, ◌≤◌, List, [], ◌∷◌, ◌⊎◌, inl, inr, length, drop, Option, Some, None, Result, Ok, Err, refl}
+use Rattle.std.proofs.Common.{◌≡◌, ℕ, zero, ◌≤◌, List, [], ◌∷◌, inl, inr, length, drop, Some, None, Ok, Err}
 use Rattle.odata_filter.specs.declared.filter_state.Reading.{Reading}
 use Rattle.odata_filter.specs.declared.filter_tokens.Token.{Token}
 use Rattle.odata_filter.specs.declared.filter_error.FilterError.TheVariants.{Bad}
@@ -10,7 +10,7 @@ use Rattle.odata_filter.specs.Readings.{IsRead}
 use Rattle.odata_filter.specs.Conditions.{Condition}
 use Rattle.odata_filter.specs.FilterGrammar.{IsFilter}
 use Rattle.odata_filter.specs.inner.FilterSteps.{nothing_read, step, ended}
-use Rattle.odata_filter.proofs.TokenReading.{HasRead, Reads, has_read_none, has_read_more, has_read_stops, has_read_all, has_read_early}
+use Rattle.odata_filter.proofs.TokenReading.{HasRead, Reads, has_read_more, has_read_stops, has_read_all, has_read_early}
 use Rattle.odata_filter.proofs.Accepts.{filter_runs}
 use Rattle.odata_filter.proofs.Held.{read_is_filter}
 use Rattle.odata_filter.proofs.Viable.{viable}
@@ -35,14 +35,6 @@ module _ (text : List ℕ) (short : length text ≤ MOST_FILTER) where
   pub filter_early : (at : ℕ) (read : Reading) → HasRead nothing_read step text at read
       → tokens_from at zero (drop at text) ≡ [] → ended read ≡ None → IsRead IsFilter text (Err (Bad (length text)))
   filter_early at read h none is = inr (short, inr (has_read_early reads_filters text at read h none is))
-
--- a text that is too long
-pub filter_long : (text : List ℕ) → MOST_FILTER < length text → IsRead IsFilter text (Err (Bad MOST_FILTER))
-filter_long text long = inl (long, refl)
-
--- before the first token
-pub filter_starts : (text : List ℕ) → HasRead nothing_read step text 0 nothing_read
-filter_starts text = has_read_none nothing_read step text
 
 -- one more token
 pub filter_goes_on : (text : List ℕ) (at : ℕ) (read next : Reading) (t : Token) → HasRead nothing_read step text at read

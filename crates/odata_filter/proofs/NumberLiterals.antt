@@ -1,10 +1,10 @@
 -- Whole numbers of 32 bits that words spell.
-use Rattle.std.proofs.Common.{◌≡◌, ℕ, zero, suc, ◌<◌, ◌&&◌, Bool, true, false, cond, eqb, List, [], ◌∷◌, length, drop, ℤ, pos, negsuc, Option, Some, None, Result, Ok, Err, nat_lt, refl, sym, ◌∙◌, ap, arith}
+use Rattle.std.proofs.Common.{◌≡◌, ℕ, zero, suc, ◌<◌, ◌&&◌, Bool, true, false, cond, eqb, List, [], ◌∷◌, length, drop, ℤ, pos, negsuc, Some, None, Result, Ok, Err, nat_lt, refl, sym, ◌∙◌, ap, arith}
 use Rattle.std.specs.List.{list_all}
 use Rattle.std.specs.Char.{is_ascii_digit}
 use Rattle.std.specs.Str.{IsAscii, IsUtf8, all_ascii_digits}
 use Rattle.std.specs.Str.Parse.{IsNumeral, ParsesSigned, digits_value, signed_digits_value, without_leading_sign}
-use Rattle.std.proofs.lemmas.Bool.{and_parts, ltb-true, lt-ltb, eqb-true}
+use Rattle.std.proofs.lemmas.Bool.{and_parts, ltb-true, eqb-true}
 use Rattle.std.proofs.lemmas.Str.{IsUtf8-from_ascii}
 use Rattle.std.proofs.lemmas.Str.Parse.{IsNumeralModel, numerals_by_value, tells_all_ascii_digits}
 use Rattle.std.proofs.lemmas.Grind.{common_steps}
@@ -53,10 +53,6 @@ signed_ascii : (word : List ℕ) → is_digits (without_leading_sign word) ≡ t
 signed_ascii [] is = ascii [] refl
 signed_ascii (b ∷ bs) is = signs b bs (eqb b 45) (eqb b 43) refl refl is
 
-fits : (z : ℤ) → SFits w32 z → if_32_bits z ≡ Some z
-fits (pos n) h = rw (lt-ltb n 2147483648 h.sfits) refl
-fits (negsuc n) h = rw (lt-ltb n 2147483648 h.sfits) refl
-
 by_test : (n : ℕ) (z : ℤ) (b : Bool) → nat_lt n 2147483648 ≡ b → (n < 2147483648 → ⊥) → cond b (Some z) None ≡ None
 by_test n z true is never = absurd (never (ltb-true n 2147483648 is))
 by_test n z false is never = refl
@@ -70,24 +66,9 @@ spelled : (word : List ℕ) → is_digits (without_leading_sign word) ≡ true
 unfolding number_in
 spelled word is = ap (λ (b : Bool). cond b (if_32_bits (signed_digits_value 10 word)) None) is
 
--- a word that isn't a sign and digits is no number
-pub not_digits : (word : List ℕ) → is_digits (without_leading_sign word) ≡ false → None ≡ number_in word
-unfolding number_in
-not_digits word is = sym (ap (λ (b : Bool). cond b (if_32_bits (signed_digits_value 10 word)) None) is)
-
 -- a sign and digits are a text
 pub digits_are_text : (word : List ℕ) → is_digits (without_leading_sign word) ≡ true → IsUtf8 word
 digits_are_text word is = IsUtf8-from_ascii word (signed_ascii word is)
-
--- what is read of them is their number
-pub number_read : {E : Type 0} (word : List ℕ) (read : Result ℤ E) (n : ℤ)
-    → is_digits (without_leading_sign word) ≡ true → ParsesSigned w32 10 word read → read ≡ Ok n
-    → Some n ≡ number_in word
-number_read {E} word (Ok found) n is parses e =
-    let same : found ≡ n = cc in
-    ap Some (sym same ∙ parses.1)
-    ∙ (sym (fits (signed_digits_value 10 word) parses.0.1) ∙ sym (spelled word is))
-number_read {E} word (Err error) n is parses e = cc
 
 -- and what isn't read is beyond 32 bits
 pub number_not_read : {E : Type 0} (word : List ℕ) (read : Result ℤ E) (error : E)

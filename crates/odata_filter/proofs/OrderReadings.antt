@@ -1,5 +1,5 @@
 -- The steps of orders read their grammar.
-use Rattle.std.proofs.Common.{◌≡◌, ℕ, zero, ◌<◌, ◌≤◌, List, [], ◌∷◌, ◌⊎◌, inl, inr, length, drop, Option, Some, None, Result, Ok, Err, refl}
+use Rattle.std.proofs.Common.{◌≡◌, ℕ, zero, ◌≤◌, List, [], ◌∷◌, inl, inr, length, drop, Some, None, Ok, Err}
 use Rattle.odata_filter.specs.declared.order_state.OrderReading.{OrderReading}
 use Rattle.odata_filter.specs.declared.topic_order.OrderKey.{OrderKey}
 use Rattle.odata_filter.specs.declared.filter_tokens.Token.{Token}
@@ -10,7 +10,7 @@ use Rattle.odata_filter.specs.FilterLexemes.{lexeme_of}
 use Rattle.odata_filter.specs.Readings.{IsRead}
 use Rattle.odata_filter.specs.OrderGrammar.{IsOrder}
 use Rattle.odata_filter.specs.inner.OrderSteps.{no_order, order_step, order_ended}
-use Rattle.odata_filter.proofs.TokenReading.{HasRead, Reads, has_read_none, has_read_more, has_read_stops, has_read_all, has_read_early}
+use Rattle.odata_filter.proofs.TokenReading.{HasRead, Reads, has_read_more, has_read_stops, has_read_all, has_read_early}
 use Rattle.odata_filter.proofs.OrderAccepts.{order_runs}
 use Rattle.odata_filter.proofs.OrderHeld.{read_is_order, order_viable}
 
@@ -34,14 +34,6 @@ module _ (text : List ℕ) (short : length text ≤ MOST_FILTER) where
   pub order_early : (at : ℕ) (read : OrderReading) → HasRead no_order order_step text at read
       → tokens_from at zero (drop at text) ≡ [] → order_ended read ≡ None → IsRead IsOrder text (Err (Bad (length text)))
   order_early at read h none is = inr (short, inr (has_read_early reads_orders text at read h none is))
-
--- a text that is too long
-pub order_long : (text : List ℕ) → MOST_FILTER < length text → IsRead IsOrder text (Err (Bad MOST_FILTER))
-order_long text long = inl (long, refl)
-
--- before the first token
-pub order_starts : (text : List ℕ) → HasRead no_order order_step text 0 no_order
-order_starts text = has_read_none no_order order_step text
 
 -- one more token
 pub order_goes_on : (text : List ℕ) (at : ℕ) (read next : OrderReading) (t : Token) → HasRead no_order order_step text at read

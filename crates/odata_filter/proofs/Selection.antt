@@ -1,5 +1,5 @@
 -- A page of the first places, ordered alone, is the page of all places in their order.
-use Rattle.std.proofs.Common.{◌≡◌, ℕ, zero, suc, ◌+◌, ◌≤◌, ◌<◌, Bool, true, false, cond, List, [], ◌∷◌, ◌++◌, ◌⊎◌, inl, inr, length, get_or, take, drop, Option, Some, None, refl, sym, ap, ◌∙◌, subst, arith}
+use Rattle.std.proofs.Common.{◌≡◌, ℕ, zero, suc, ◌+◌, ◌≤◌, Bool, true, false, cond, List, [], ◌∷◌, ◌++◌, inl, inr, length, get_or, take, drop, Option, Some, None, refl, ap, ◌∙◌, subst, arith}
 use Rattle.std.specs.Cmp.{IsTotalOrder}
 use Rattle.std.specs.List.{AllByRecursion}
 use Rattle.std.specs.List.Sorted.{IsPermutation, IsSorted, IsSplitAroundBy}
@@ -166,27 +166,3 @@ module _ (R : ℕ → ℕ → Ordering) (o : IsTotalOrder R) where
       page_all skip (Some top) sorted (ordered R o rest) (nothing_left R o rest none)
   same_page skip (Some top) front rest sorted p (inr fits) =
       page_within skip top sorted (ordered R o rest) (omega (arith, length_permutation front sorted p, fits))
-
-before_nothing : (R : ℕ → ℕ → Ordering) (front : List ℕ) → NoneBefore R front []
-before_nothing R [] = tt
-before_nothing R (x ∷ front) = (tt, before_nothing R front)
-
-all_enough : (skip : ℕ) (top : Option ℕ) (front : List ℕ) → IsEnough skip top front []
-all_enough skip None front = refl
-all_enough skip (Some top) front = inl refl
-
--- all places serve any page
-pub all_front : (R : ℕ → ℕ → Ordering) (skip : ℕ) (top : Option ℕ) (all : List ℕ) → IsFront R skip top all all
-all_front R skip top all = record {
-  rest = [];
-  kept = subst (IsPermutation all) (sym (append-nil all)) (IsPermutation-refl all);
-  before = before_nothing R all;
-  enough = all_enough skip top all;
-}
-
--- and so many that are selected serve a page of no more
-pub selected_front : (R : ℕ → ℕ → Ordering) (skip top : ℕ) (all front : List ℕ)
-    → (rest : List ℕ) × IsPermutation all (front ++ rest) × NoneBefore R front rest × (length front ≡ skip + top)
-    → IsFront R skip (Some top) all front
-selected_front R skip top all front h =
-    record { rest = h.0; kept = h.1; before = h.2; enough = inr (omega (arith, h.3)) }

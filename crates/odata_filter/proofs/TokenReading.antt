@@ -1,7 +1,7 @@
 -- What a reading token by token says of a grammar whose texts its steps read.
 use Rattle.std.proofs.Common.{◌≡◌, ℕ, zero, List, [], ◌∷◌, ◌++◌, length, drop, Option, Some, None, refl, sym, ap, ◌∙◌, subst, append_assoc}
 use Rattle.std.proofs.lemmas.List.{append-nil, map-append}
-use Rattle.std.specs.Prelude.{option_and_then, MatchOption}
+use Rattle.std.specs.Prelude.{option_and_then}
 use Rattle.odata_filter.specs.declared.filter_tokens.Token.{Token}
 use Rattle.odata_filter.specs.FilterTokens.{tokens_from, tokens_of}
 use Rattle.odata_filter.specs.FilterLexemes.{Lexeme, lexeme_of, lexemes, lexemes_of}
@@ -32,10 +32,6 @@ module _ {S : Type 0} (start : S) (step : S → Lexeme → Option S) where
       → step read l ≡ Some next → run step start (ls ++ l ∷ []) ≡ Some next
   read_more ls l read next e one =
       run_then step start read ls (l ∷ []) _ e (run_cons step read next l [] _ one refl)
-
-  -- before the first token
-  pub has_read_none : (text : List ℕ) → HasRead start step text 0 start
-  has_read_none text = record { before = []; cut = refl; runs = refl }
 
   -- one more token
   pub has_read_more : (text : List ℕ) (at : ℕ) (read next : S) (t : Token) → HasRead start step text at read
@@ -120,9 +116,3 @@ module _ {S A : Type 0} {start : S} {step : S → Lexeme → Option S} {ended : 
         none = read_is_none (lexemes_of text) read runs is;
         place = refl;
       }
-
--- there is none
-pub none_left : {A : Type 0} (P : Type 0) (Q : A → Type 0) (r : Option A) → MatchOption r P Q
-    → ((x : A) → r ≡ Some x → ⊥) → P
-none_left P Q None h other = h
-none_left P Q (Some x) h other = absurd (other x refl)

@@ -33,8 +33,8 @@ by_places keys topics i j =
     ordering_then (option_cmp (by_keys keys) (slice_get topics i) (slice_get topics j)) (nat_cmp i j)
 
 -- the places of the topics that a filter keeps, each once, in their order
-pub record IsOrdering (filter : Option Condition) (keys : List OrderKey) (topics : List Topic) (places : List ℕ)
-    : Type 0 where
+pub record IsOrdering (filter : Option Condition) (keys : List OrderKey) (topics : List Topic)
+    (places : List ℕ) : Type 0 where
   pub kept : IsPermutation (kept_from 0 filter topics) places
   pub rises : IsSorted (by_places keys topics) places
 

@@ -1,7 +1,7 @@
 //! How the text of a filter is read.
 ghost use Rattle.std.specs.Prelude.{◌≡◌, IfOk};
 ghost use Rattle.odata_filter.specs.FilterGrammar.{IsFilter};
-ghost use Rattle.odata_filter.specs.inner.FilterSteps.{ended};
+ghost use Rattle.odata_filter.specs.inner.FilterSteps.{ended_at, ended};
 ghost use Rattle.odata_filter.specs.Readings.{IsRead};
 
 use crate::filter::Filter;
@@ -13,12 +13,14 @@ use crate::filter_tokens::next_token;
 use crate::limits::MOST_FILTER;
 use std::alloc::{AllocError, Global};
 
-// The filter at the end of a text, where it may end.
-#[tactic(auto, unfolding(crate::specs::inner::FilterSteps::ended))]
-fn ended(alloc: Global, read: Reading) -> Result<Option<Filter>, AllocError>
-    ensures { IfOk result (λ found. found ≡ ended read) }
+// The filter at the end of a text, where it may end: behind an operand, outside all parentheses.
+fn ended_at(
+    alloc: Global,
+    levels: Levels,
+    expected: &Expected,
+) -> Result<Option<Filter>, AllocError>
+    ensures { IfOk result (λ found. found ≡ ended_at levels levels.outer expected.now) }
 {
-    let Reading { expected, levels } = read;
     let Levels { inner, outer } = levels;
     if outer.len() > 0 {
         return Ok(None);
@@ -35,6 +37,15 @@ fn ended(alloc: Global, read: Reading) -> Result<Option<Filter>, AllocError>
         }
         _ => Ok(None),
     }
+}
+
+// The same of what has been read.
+#[tactic(auto, unfolding(crate::specs::inner::FilterSteps::ended))]
+fn ended(alloc: Global, read: Reading) -> Result<Option<Filter>, AllocError>
+    ensures { IfOk result (λ found. found ≡ ended read) }
+{
+    let Reading { expected, levels } = read;
+    ended_at(alloc, levels, &expected)
 }
 
 impl Filter {

@@ -1,5 +1,5 @@
 //! Filters of the sample topics, with what an independent program made of each.
-use crate::rows::Row;
+use crate::table_rows::Row;
 
 /// A text, and what it lists or where it is refused.
 pub static FILTERS: [Row; 379] = [

@@ -5,7 +5,7 @@ mod filter_rows;
 mod listing_rows;
 mod long_rows;
 mod order_rows;
-mod rows;
 mod sample_rows;
 mod sample_topics;
+mod table_rows;
 mod table_tests;

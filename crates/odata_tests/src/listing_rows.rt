@@ -1,5 +1,5 @@
 //! Lists of the sample topics, with what an independent program made of each.
-use crate::rows::ListingRow;
+use crate::table_rows::ListingRow;
 
 /// A filter, an order, how many are left out, how many are listed at most, and what is listed.
 pub static LISTINGS: [ListingRow; 60] = [

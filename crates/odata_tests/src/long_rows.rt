@@ -1,5 +1,5 @@
 //! Long filters and orders, with what an independent program made of each.
-use crate::rows::LongRow;
+use crate::table_rows::LongRow;
 
 /// A text by its beginning, what is repeated, how often, and its end, and what it lists or where it is refused.
 pub static LONG_FILTERS: [LongRow; 21] = [
