@@ -1,10 +1,15 @@
 //! The tables of filters, orders and lists.
-use crate::filter_rows::FILTERS;
+use crate::joined_rows::JOINED_FILTERS;
 use crate::listing_rows::LISTINGS;
 use crate::long_rows::{LONG_FILTERS, LONG_ORDERS};
+use crate::number_rows::NUMBER_FILTERS;
 use crate::order_rows::ORDERS;
+use crate::refused_joined_rows::REFUSED_JOINED;
+use crate::refused_number_rows::REFUSED_NUMBERS;
+use crate::refused_rows::REFUSED_FILTERS;
 use crate::sample_topics::sample_topics;
-use crate::table_rows::{ListingRow, LongRow, Wanted};
+use crate::table_rows::{ListingRow, LongRow, Row, Wanted};
+use crate::text_rows::TEXT_FILTERS;
 use bcf_topics::Topic;
 use bim_model::Shared;
 use odata_filter::{Filter, FilterError, Listing, Order};
@@ -28,69 +33,82 @@ fn are_of(places: &[u32], topics: &[Shared<Topic>], serials: &[u64]) -> bool {
     places.len() == serials.len()
 }
 
-// Whether a list has the topics of these serial numbers, in this order.
-fn lists(
-    alloc: Global,
-    listing: Listing,
-    topics: &[Shared<Topic>],
-    serials: &[u64],
-) -> Result<bool, AllocError> {
-    let places = listing.places(alloc, topics);
-    drop(listing);
-    Ok(are_of(&places?, topics, serials))
+fn filter_of(alloc: Global, text: Option<&[u8]>) -> Result<Option<Filter>, FilterError> {
+    match text {
+        Some(text) => Ok(Some(Filter::read(alloc, text)?)),
+        None => Ok(None),
+    }
 }
 
-// Whether a listing that was read lists what is wanted, or is refused where that is wanted.
-fn is_as_wanted(
+fn order_of(alloc: Global, text: Option<&[u8]>) -> Result<Option<Order>, FilterError> {
+    match text {
+        Some(text) => Ok(Some(Order::read(alloc, text)?)),
+        None => Ok(None),
+    }
+}
+
+// The places of the topics that the texts list.
+fn listed(
     alloc: Global,
-    read: Result<Listing, FilterError>,
+    topics: &[Shared<Topic>],
+    filter: Option<&[u8]>,
+    order: Option<&[u8]>,
+    skip: u64,
+    top: Option<u64>,
+) -> Result<Vec<u32>, FilterError> {
+    let order = order_of(alloc, order)?;
+    let filter = filter_of(alloc, filter)?;
+    let listing = Listing {
+        filter,
+        order,
+        skip,
+        top,
+    };
+    let places = listing.places(alloc, topics);
+    drop(listing);
+    Ok(places?)
+}
+
+// Whether the topics at these places are wanted, or a text is refused where that is wanted.
+fn is_as_wanted(
+    found: Result<Vec<u32>, FilterError>,
     topics: &[Shared<Topic>],
     wanted: Wanted,
 ) -> Result<bool, AllocError> {
-    match read {
-        Ok(listing) => match wanted {
-            Ok(serials) => lists(alloc, listing, topics, serials),
-            Err(_) => {
-                drop(listing);
-                Ok(false)
-            }
+    match found {
+        Ok(places) => match wanted {
+            Ok(serials) => Ok(are_of(&places, topics, serials)),
+            Err(_) => Ok(false),
         },
-        Err(FilterError::Bad { at }) => Ok(wanted.err() == Some(at)),
+        Err(FilterError::Bad { at }) => match wanted {
+            Ok(_) => Ok(false),
+            Err(place) => Ok(at == place),
+        },
         Err(FilterError::Memory) => Err(AllocError),
     }
 }
 
-fn filtered(alloc: Global, text: &[u8]) -> Result<Listing, FilterError> {
-    let filter = Filter::read(alloc, text)?;
-    Ok(Listing {
-        filter: Some(filter),
-        order: None,
-        skip: 0,
-        top: None,
-    })
-}
-
-fn ordered(alloc: Global, text: &[u8]) -> Result<Listing, FilterError> {
-    let order = Order::read(alloc, text)?;
-    Ok(Listing {
-        filter: None,
-        order: Some(order),
-        skip: 0,
-        top: None,
-    })
-}
-
-// The first filter that isn't as wanted.
+// The first filter of a table that isn't as wanted.
 fn wrong_filter(
     alloc: Global,
     topics: &[Shared<Topic>],
+    rows: &[Row],
 ) -> Result<Option<&'static str>, AllocError> {
-    for (text, wanted) in FILTERS.iter() {
-        if !is_as_wanted(alloc, filtered(alloc, text.as_bytes()), topics, *wanted)? {
+    for (text, wanted) in rows {
+        let found = listed(alloc, topics, Some(text.as_bytes()), None, 0, None);
+        if !is_as_wanted(found, topics, *wanted)? {
             return Ok(Some(*text));
         }
     }
     Ok(None)
+}
+
+fn filters_are_as_wanted(rt: &impl Abort, alloc: Global, rows: &[Row]) -> Result<(), Fail> {
+    let topics = sample_topics(alloc)?;
+    let wrong = wrong_filter(alloc, &topics, rows);
+    drop(topics);
+    assert_eq!(rt; wrong?, None);
+    Ok(())
 }
 
 // The first order that isn't as wanted.
@@ -99,7 +117,8 @@ fn wrong_order(
     topics: &[Shared<Topic>],
 ) -> Result<Option<&'static str>, AllocError> {
     for (text, wanted) in ORDERS.iter() {
-        if !is_as_wanted(alloc, ordered(alloc, text.as_bytes()), topics, *wanted)? {
+        let found = listed(alloc, topics, None, Some(text.as_bytes()), 0, None);
+        if !is_as_wanted(found, topics, *wanted)? {
             return Ok(Some(*text));
         }
     }
@@ -125,7 +144,8 @@ fn wrong_long_filter(
 ) -> Result<Option<LongRow>, AllocError> {
     for row in LONG_FILTERS.iter() {
         let text = long_text(alloc, row)?;
-        if !is_as_wanted(alloc, filtered(alloc, &text), topics, row.4)? {
+        let found = listed(alloc, topics, Some(text.as_slice()), None, 0, None);
+        if !is_as_wanted(found, topics, row.4)? {
             return Ok(Some(*row));
         }
     }
@@ -139,36 +159,19 @@ fn wrong_long_order(
 ) -> Result<Option<LongRow>, AllocError> {
     for row in LONG_ORDERS.iter() {
         let text = long_text(alloc, row)?;
-        if !is_as_wanted(alloc, ordered(alloc, &text), topics, row.4)? {
+        let found = listed(alloc, topics, None, Some(text.as_slice()), 0, None);
+        if !is_as_wanted(found, topics, row.4)? {
             return Ok(Some(*row));
         }
     }
     Ok(None)
 }
 
-fn filter_of(alloc: Global, text: Option<&str>) -> Result<Option<Filter>, FilterError> {
+fn bytes_of<'t>(text: Option<&'t str>) -> Option<&'t [u8]> {
     match text {
-        Some(text) => Ok(Some(Filter::read(alloc, text.as_bytes())?)),
-        None => Ok(None),
+        Some(text) => Some(text.as_bytes()),
+        None => None,
     }
-}
-
-fn order_of(alloc: Global, text: Option<&str>) -> Result<Option<Order>, FilterError> {
-    match text {
-        Some(text) => Ok(Some(Order::read(alloc, text.as_bytes())?)),
-        None => Ok(None),
-    }
-}
-
-fn listing_of(alloc: Global, row: &ListingRow) -> Result<Listing, FilterError> {
-    let order = order_of(alloc, row.1)?;
-    let filter = filter_of(alloc, row.0)?;
-    Ok(Listing {
-        filter,
-        order,
-        skip: row.2,
-        top: row.3,
-    })
 }
 
 // The first listing that isn't as wanted.
@@ -177,7 +180,15 @@ fn wrong_listing(
     topics: &[Shared<Topic>],
 ) -> Result<Option<ListingRow>, AllocError> {
     for row in LISTINGS.iter() {
-        if !is_as_wanted(alloc, listing_of(alloc, row), topics, Ok(row.4))? {
+        let found = listed(
+            alloc,
+            topics,
+            bytes_of(row.0),
+            bytes_of(row.1),
+            row.2,
+            row.3,
+        );
+        if !is_as_wanted(found, topics, Ok(row.4))? {
             return Ok(Some(*row));
         }
     }
@@ -185,12 +196,33 @@ fn wrong_listing(
 }
 
 #[test]
-fn filters_keep_what_they_say(rt: HostRuntime) -> Result<(), Fail> {
-    let topics = sample_topics(rt.alloc())?;
-    let wrong = wrong_filter(rt.alloc(), &topics);
-    drop(topics);
-    assert_eq!(rt; wrong?, None);
-    Ok(())
+fn filters_by_texts_keep_what_they_say(rt: HostRuntime) -> Result<(), Fail> {
+    filters_are_as_wanted(&rt, rt.alloc(), &TEXT_FILTERS)
+}
+
+#[test]
+fn filters_by_numbers_and_dates_keep_what_they_say(rt: HostRuntime) -> Result<(), Fail> {
+    filters_are_as_wanted(&rt, rt.alloc(), &NUMBER_FILTERS)
+}
+
+#[test]
+fn joined_filters_keep_what_they_say(rt: HostRuntime) -> Result<(), Fail> {
+    filters_are_as_wanted(&rt, rt.alloc(), &JOINED_FILTERS)
+}
+
+#[test]
+fn texts_that_are_no_filters_are_refused(rt: HostRuntime) -> Result<(), Fail> {
+    filters_are_as_wanted(&rt, rt.alloc(), &REFUSED_FILTERS)
+}
+
+#[test]
+fn numbers_and_dates_that_are_none_are_refused(rt: HostRuntime) -> Result<(), Fail> {
+    filters_are_as_wanted(&rt, rt.alloc(), &REFUSED_NUMBERS)
+}
+
+#[test]
+fn joined_filters_that_are_none_are_refused(rt: HostRuntime) -> Result<(), Fail> {
+    filters_are_as_wanted(&rt, rt.alloc(), &REFUSED_JOINED)
 }
 
 #[test]
