@@ -7,11 +7,13 @@ ghost use Rattle.bcf_bodies.specs.TopicTrees.{IsTopicTree};
 ghost use Rattle.bcf_bodies.specs.CommentTrees.{IsCommentTree};
 ghost use Rattle.bcf_bodies.specs.ViewTrees.{whole_tree};
 ghost use Rattle.bcf_http.specs.Answers.{project_tree, IsArrayOf};
+ghost use Rattle.bcf_http.specs.ListRequests.{topics_at};
 
 use bcf_bodies::{comment_out, topic_out, view_out};
 use bcf_json::identifier_out;
 use bcf_topics::{Comment, Topic};
 use bcf_viewpoints::{CheckedView, ViewPart};
+use bim_model::Shared;
 use serde_json::{Value, json};
 use std::alloc::{AllocError, Global};
 
@@ -58,12 +60,34 @@ fn push_topic(
 }
 
 /// Topics of a project.
-pub fn topics_out(alloc: Global, project: u32, topics: &[Topic]) -> Result<Value, AllocError>
+pub fn topics_out(
+    alloc: Global,
+    project: u32,
+    topics: &[Shared<Topic>],
+) -> Result<Value, AllocError>
     ensures { IfOk result (λ v. IsArrayOf (IsTopicTree project) topics.now (view v)) }
 {
     let mut trees = Vec::with_capacity(alloc, topics.len())?;
     for topic in topics {
-        push_topic(alloc, project, &mut trees, topic)?;
+        push_topic(alloc, project, &mut trees, topic.get())?;
+    }
+    Ok(Value::Array(trees))
+}
+
+/// The topics of a project at these places.
+pub fn topics_at_out(
+    alloc: Global,
+    project: u32,
+    topics: &[Shared<Topic>],
+    places: &[u32],
+) -> Result<Value, AllocError>
+    ensures { IfOk result (λ v. IsArrayOf (IsTopicTree project) (topics_at topics.now places.now) (view v)) }
+{
+    let mut trees = Vec::with_capacity(alloc, places.len())?;
+    for place in places {
+        if let Some(topic) = topics.get(*place as usize) {
+            push_topic(alloc, project, &mut trees, topic.get())?;
+        }
     }
     Ok(Value::Array(trees))
 }

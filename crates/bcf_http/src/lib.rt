@@ -6,10 +6,12 @@ mod arrays;
 mod asked;
 mod board_calls;
 mod bodies;
+mod list_requests;
 mod reply_kind;
 mod responses;
 mod trees;
 
 pub use answers::{Answer, to_response};
 pub use asked::{Action, Refusal, RequestFault, asked_of};
+pub use list_requests::listing_of;
 pub use reply_kind::ReplyKind;

@@ -23,7 +23,7 @@ use Rattle.bim_session.specs.declared.want.Want.TheVariants.{More, Write, Call, 
 use Rattle.bim_session.specs.declared.notes.Notes.{Notes}
 use Rattle.bim_session.specs.ShelfNotes.{project_read, IsKeptReply}
 use Rattle.bim_session.specs.Session.{closes_after, continue_bytes, IsFaultResponse}
-use Rattle.bim_session.specs.Talking.{TalkState, IsOwnEnd, IsOwnLeaving, IsOwnWant, GrowsBy, Feeds, is_end, Wants, StopsNext, TakesRequest, Writes, WantsFor, AtRest, AsksFor, waiting_for, with_answer, with_call, with_fault, with_framer, asks_change, IsUnasked, AnswersAlone}
+use Rattle.bim_session.specs.Talking.{TalkState, IsOwnEnd, IsOwnLeaving, IsOwnWant, GrowsBy, Feeds, is_end, Wants, StopsNext, TakesRequest, Writes, WantsFor, AtRest, AsksFor, waiting_for, waiting_alone, with_answer, with_call, with_fault, with_framer, asks_change, IsUnasked, AnswersAlone}
 
 pub none_of : (o : Option SessionEnd) → ((e : SessionEnd) → o ≡ Some e → ⊥) → o ≡ None
 none_of None not_some = refl
@@ -139,7 +139,7 @@ requested : (old new : TalkState) (f : Framer) (m : ℕ) (r : HttpRequest) (want
     → WantsFor m r (with_framer f old) want new → Wants a b old want new
 requested old new f m r More a b here steps gives wants = absurd wants
 requested old new f m r (Call call) a b here steps gives wants = λ rest told stands.
-    let same : new.framer ≡ f = ap (λ (s : TalkState). s.framer) wants.2 in (
+    let same : new.framer ≡ f = ap (λ (s : TalkState). s.framer) wants.4 in (
       m ∷ [],
       gives,
       (
@@ -148,8 +148,10 @@ requested old new f m r (Call call) a b here steps gives wants = λ rest told st
           took m r f new.framer rest told (steps rest told stands) same,
           wants.0,
           wants.1,
-          wants.2
-              ∙ ap (λ (g : Framer). with_call (waiting_for r (old.served + 1) (asks_change call.request) (project_read call.request)) (with_framer g old)) (sym same),
+          wants.2,
+          wants.3,
+          wants.4
+              ∙ ap (λ (g : Framer). with_call (waiting_for r (old.served + 1) (asks_change call.request) (project_read call.request) wants.2) (with_framer g old)) (sym same),
         ),
       ),
     )
@@ -185,7 +187,7 @@ alone_of m r refusal waiting bytes (inr is) response = inr (subst (λ (a : Answe
 refuses : (m : ℕ) (r : HttpRequest) (refusal : Answer) (old new : TalkState) (want : Want) → IsUnasked m r refusal
     → Writes (IsResponse refusal (kind_of r) None (closes_after r (old.served + 1))) want → new ≡ with_answer (closes_after r (old.served + 1)) old → WantsFor m r old want new
 refuses m r refusal old new More unasked writes is = absurd writes
-refuses m r refusal old new (Write bytes) unasked writes is = (inl (alone_of m r refusal (waiting_for r (old.served + 1) false None) bytes unasked writes), is)
+refuses m r refusal old new (Write bytes) unasked writes is = (inl (alone_of m r refusal (waiting_alone r (old.served + 1)) bytes unasked writes), is)
 refuses m r refusal old new (Call call) unasked writes is = absurd writes
 refuses m r refusal old new (Leave e) unasked writes is = absurd writes
 

@@ -3,11 +3,11 @@ use bcf_bodies::BodyFault;
 use bcf_http::{Action, Answer, Refusal, ReplyKind, RequestFault, asked_of, to_response};
 use bcf_topics::{CommentIn, Topic, TopicBody};
 use bcf_viewpoints::ViewPart;
-use bim_model::{Author, Bytes, Items, Mode, Moment, Text};
+use bim_model::{Author, Bytes, Items, Mode, Moment, Shared, Text};
 use book_history::{BookFault, BookReply, BookRequest, Horizon, ReplyBody, Wanted};
 use clash_rules::RuleFault;
 use http_frame::{FrameFault, HttpRequest, TurnField};
-use http_routes::{QueryName, RoutePath, Routes};
+use http_routes::{ListAsked, QueryName, RoutePath, Routes};
 use std::alloc::{AllocError, Global};
 use std::process::Abort;
 use std::test::Fail;
@@ -180,6 +180,21 @@ fn request_line(alloc: Global, request: &BookRequest) -> Result<String, AllocErr
     }
 }
 
+fn text_or(text: &Option<Text>) -> &str {
+    match text {
+        Some(text) => text.as_str(),
+        None => "-",
+    }
+}
+
+fn list_line(alloc: Global, project: u128, asked: &ListAsked) -> Result<String, AllocError> {
+    let filter = text_or(&asked.filter);
+    let order = text_or(&asked.order);
+    let skip = asked.skip.unwrap_or(0);
+    let top = asked.top.unwrap_or(0);
+    format!(in alloc; "list {project:032x} {filter} {order} {skip} {top}")
+}
+
 fn asked_line(alloc: Global, asked: &Result<Action, Refusal>) -> Result<String, AllocError> {
     match asked {
         Ok(Action::Call(request)) => request_line(alloc, request),
@@ -191,6 +206,7 @@ fn asked_line(alloc: Global, asked: &Result<Action, Refusal>) -> Result<String, 
                 body,
             },
         ) => model_line(alloc, *project, name.as_str(), *mode, body.as_slice()),
+        Ok(Action::AskList { project, asked, .. }) => list_line(alloc, *project, asked),
         Err(_) => String::from_str(alloc, "refused"),
     }
 }
@@ -226,6 +242,16 @@ fn topics_and_comments_are_asked_for(rt: HostRuntime) -> Result<(), Fail> {
     let wanted =
         "comment 00000001000080008000000000000000 00000001000080008000000000000001 00000001000080008000000000000002 Moved 00000001000080008000000000000003 anna 75";
     asks(&rt, rt.alloc(), ("PUT", target, said), wanted)
+}
+
+#[test]
+fn lists_of_topics_are_asked_for(rt: HostRuntime) -> Result<(), Fail> {
+    let target =
+        "/bcf/3.0/projects/00000001-0000-8000-8000-000000000000/topics?%24filter=title%20eq+%27a%27&$top=2&x=1&$orderby=title";
+    let wanted = "list 00000001000080008000000000000000 title eq 'a' title 0 2";
+    asks(&rt, rt.alloc(), ("GET", target, ""), wanted)?;
+    let twice = "/bcf/3.0/projects/00000001-0000-8000-8000-000000000000/topics?$top=2&$top=2";
+    asks(&rt, rt.alloc(), ("GET", twice, ""), "refused")
 }
 
 #[test]
@@ -471,8 +497,8 @@ fn made(alloc: Global) -> Result<Answer, AllocError> {
     Ok(replied(ReplyBody::TopicIs(pipe(alloc)?)))
 }
 
-fn pipes(alloc: Global) -> Result<Items<Topic>, AllocError> {
-    let pipe = pipe(alloc)?;
+fn pipes(alloc: Global) -> Result<Items<Shared<Topic>>, AllocError> {
+    let pipe = Shared::new(alloc, pipe(alloc)?)?;
     let mut topics = Items::new(alloc);
     match topics.push(pipe) {
         Ok(()) => Ok(topics),
