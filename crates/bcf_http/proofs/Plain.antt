@@ -13,7 +13,7 @@ use Rattle.bcf_http.specs.declared.asked.RequestFault.TheVariants.{NoRoute, Meth
 use Rattle.bcf_http.specs.declared.asked.Refusal.{Refusal}
 use Rattle.bcf_http.specs.declared.asked.Refusal.TheVariants.{Fault, Memory}
 use Rattle.bcf_http.specs.declared.asked.Action.{Action}
-use Rattle.bcf_http.specs.declared.asked.Action.TheVariants.{Call, Build}
+use Rattle.bcf_http.specs.declared.asked.Action.TheVariants.{Call, Build, AskList}
 use Rattle.book_history.specs.declared.requests.BookRequest.{BookRequest}
 use Rattle.book_history.specs.declared.requests.BookRequest.TheVariants.{ReadTopic, DeleteTopic, ReadComment, DeleteComment, ReadView, DeleteView, Remove}
 use Rattle.bcf_bodies.specs.TopicBodies.{topic_body}
@@ -116,7 +116,9 @@ asked_at_none moment request (Err fault) = tt
 
 -- a bad turn asks for nothing
 bad_turn_none : (r : Result Action RequestFault) → AllNone (with_bad_turn r)
-bad_turn_none (Ok call) = tt
+bad_turn_none (Ok (Call call)) = tt
+bad_turn_none (Ok (Build p name mode body)) = tt
+bad_turn_none (Ok (AskList p asked bad_turn)) = tt
 bad_turn_none (Err NoRoute) = tt
 bad_turn_none (Err (Method row)) = tt
 bad_turn_none (Err Encoding) = tt

@@ -240,17 +240,27 @@ fn bad_turn(asked: Result<Action, Refusal>) -> Result<Action, Refusal>
         → IsAskedAs result (with_bad_turn meant) }
 {
     match asked {
-        Ok(Action::AskList { project, asked, .. }) => Ok(Action::AskList {
+        Ok(action) => told_of(action),
+        Err(Refusal::Fault(fault)) => Err(Refusal::Fault(fault_or_turn(fault))),
+        Err(Refusal::Memory) => Err(Refusal::Memory),
+    }
+}
+
+// The same of a request that asks for something: a list is told of the turn, all else is refused.
+fn told_of(action: Action) -> Result<Action, Refusal>
+    ensures { IsAskedAs result (with_bad_turn (Ok action)) }
+{
+    match action {
+        Action::AskList { project, asked, .. } => Ok(Action::AskList {
             project,
             asked,
             bad_turn: true,
         }),
-        Ok(action) => {
-            drop(action);
+        Action::Call(call) => {
+            drop(call);
             Err(Refusal::Fault(RequestFault::BadTurn))
         }
-        Err(Refusal::Fault(fault)) => Err(Refusal::Fault(fault_or_turn(fault))),
-        Err(Refusal::Memory) => Err(Refusal::Memory),
+        Action::Build { .. } => Err(Refusal::Fault(RequestFault::BadTurn)),
     }
 }
 
