@@ -1,5 +1,6 @@
 -- How the topics of a project are listed: by the texts of a query, as they are read.
-use Rattle.std.specs.Prelude.{◌≡◌, ◌⊎◌, ℕ, Bool, true, false, List, [], ◌∷◌, ◌++◌, Option, Some, None, Result, Ok, Err, unwrap_or, slice_get, ⊤}
+use Rattle.std.specs.Prelude.{◌≡◌, ◌⊎◌, ℕ, Bool, true, false, List, Option, Some, None, Result, Ok, Err, unwrap_or, ⊤}
+use Rattle.std.specs.List.{slice_get, filter_map}
 use Rattle.bcf_topics.specs.declared.topic.Topic.{Topic}
 use Rattle.odata_filter.specs.declared.filter_error.FilterError.TheVariants.{Bad}
 use Rattle.odata_filter.specs.declared.listing.Listing.{Listing}
@@ -57,12 +58,6 @@ IsListingOf asked bad_turn (Ok listing) = AsksListing asked listing × (bad_turn
 IsListingOf asked bad_turn (Err (Fault fault)) = RefusesListing asked bad_turn fault
 IsListingOf asked bad_turn (Err Memory) = ⊤
 
--- a topic, if there is one, before others
-abbrev pub with_topic : Option Topic → List Topic → List Topic
-with_topic None topics = topics
-with_topic (Some topic) topics = topic ∷ topics
-
 -- the topics at places of a list
 abbrev pub topics_at : List Topic → List ℕ → List Topic
-topics_at topics [] = []
-topics_at topics (place ∷ places) = with_topic (slice_get topics place) (topics_at topics places)
+topics_at topics places = filter_map (slice_get topics) places

@@ -1,5 +1,6 @@
 //! Lists as arrays.
-ghost use Rattle.std.specs.Prelude.{◌≡◌, ◌++◌, ◌∷◌, [], map, IfOk, OnOk};
+ghost use Rattle.std.specs.Prelude.{◌≡◌, ◌++◌, ◌∷◌, [], map, IfOk, OnOk, MatchOption};
+ghost use Rattle.std.specs.List.{slice_get};
 ghost use Rattle.serde_json.specs.Data.{array};
 ghost use Rattle.serde_json.specs.View.{view};
 ghost use Rattle.bcf_bodies.specs.TextMembers.{listed};
@@ -74,6 +75,23 @@ pub fn topics_out(
     Ok(Value::Array(trees))
 }
 
+// One more of the topics of a project, if there is one at this place.
+fn push_topic_at(
+    alloc: Global,
+    project: u32,
+    trees: &mut Vec<Value>,
+    topics: &[Shared<Topic>],
+    place: u32,
+) -> Result<(), AllocError>
+    ensures { OnOk result (MatchOption (slice_get topics.now place) (trees.new.items ≡ trees.old.items)
+        (λ topic. (v : _) × IsTopicTree project topic (view v) × (trees.new.items ≡ trees.old.items ++ v ∷ []))) }
+{
+    match topics.get(place as usize) {
+        Some(topic) => push_topic(alloc, project, trees, topic.get()),
+        None => Ok(()),
+    }
+}
+
 /// The topics of a project at these places.
 pub fn topics_at_out(
     alloc: Global,
@@ -85,9 +103,7 @@ pub fn topics_at_out(
 {
     let mut trees = Vec::with_capacity(alloc, places.len())?;
     for place in places {
-        if let Some(topic) = topics.get(*place as usize) {
-            push_topic(alloc, project, &mut trees, topic.get())?;
-        }
+        push_topic_at(alloc, project, &mut trees, topics, *place)?;
     }
     Ok(Value::Array(trees))
 }

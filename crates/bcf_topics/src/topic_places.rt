@@ -1,5 +1,5 @@
 //! The topics in their list, found by halving.
-ghost use Rattle.std.specs.Prelude.{◌≡◌, ◌<◌, ◌++◌, ◌∷◌, [], None, is_some, option_copied, if◌then◌else◌, MatchOption, All, IfOk, OnOk, OnErr};
+ghost use Rattle.std.specs.Prelude.{◌≡◌, ◌<◌, ◌++◌, ◌∷◌, [], None, is_some, true, option_copied, if◌then◌else◌, MatchOption, All, IfOk, OnOk, OnErr};
 ghost use Rattle.bcf_topics.specs.Topics.{topic_of, topic_put, topics_put, topics_but, Rises};
 ghost use Rattle.bcf_topics.specs.Discussions.{IsPlaceOf};
 
@@ -72,7 +72,7 @@ fn with_body(
     Shared::new(alloc, made)
 }
 
-/// Puts another body in a topic, and says whether it is there. An `Err` leaves them as they were.
+/// Puts another body in a topic, and says whether it is there. An `Err` comes only if it is, and leaves them as they were.
 pub fn replace(
     topics: &mut Vec<Shared<Topic>>,
     serial: u64,
@@ -84,14 +84,16 @@ pub fn replace(
     ensures after { OnOk result (topics.new.items
         ≡ (if is_some (topic_of serial topics.old.items) then topics_put serial body author topics.old.items
         else topics.old.items)) }
+    ensures there { OnErr result (is_some (topic_of serial topics.old.items) ≡ true) }
     ensures err { OnErr result (topics.new.items ≡ topics.old.items) }
     ensures rises { Rises topics.new.items }
 {
     match place_of(topics, serial) {
         Some(at) => {
             let alloc = *topics.allocator();
-            let topic = with_body(alloc, topics[at].get(), body, author)?;
-            topics[at] = topic;
+            let made = with_body(alloc, topics[at].get(), body, author)?;
+            let topic = &mut topics[at];
+            *topic = made;
             Ok(true)
         }
         None => Ok(false),

@@ -141,10 +141,10 @@ impl Topics {
             ≡ (if is_ok result then with_topics (topics_put serial body author self.old.topics) self.old
             else self.old) }
     {
-        if topic_places::replace(&mut self.topics, serial, body, author)? {
-            Ok(())
-        } else {
-            Err(TopicError::NoTopic)
+        match topic_places::replace(&mut self.topics, serial, body, author) {
+            Ok(true) => Ok(()),
+            Ok(false) => Err(TopicError::NoTopic),
+            Err(_) => Err(TopicError::Memory),
         }
     }
 
