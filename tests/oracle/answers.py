@@ -215,7 +215,9 @@ def in_turn(book: Book, asked: Asked) -> Answer:
         return book.booked(200, project_tree(number))
     board = book.boards[number]
     if kind == "topics":
-        return book.booked(*on_topics(board, asked.method, asked.body, asked.user, ids[1:], asked.query))
+        return book.booked(
+            *on_topics(board, asked.method, asked.body, asked.user, ids[1:], asked.query)
+        )
     if kind == "comments":
         return book.booked(*on_comments(board, asked.method, asked.body, asked.user, ids[1:]))
     if kind in ("views", "part"):

@@ -1,5 +1,6 @@
 """Lists of topics by `$filter`, `$orderby`, `$skip` and `$top`."""
 
+import operator
 import re
 from collections.abc import Callable, Sequence
 from typing import Any
@@ -17,12 +18,12 @@ MOST_KEYS = 4
 TOKEN = re.compile(rb"'(?:[^']|'')*'(?!')|[(),]|[0-9A-Za-z_+\-.:]+")
 Test = Callable[[Tree], bool]
 COMPARED: dict[str, Callable[[Any, Any], bool]] = {
-    "eq": lambda a, b: a == b,
-    "ne": lambda a, b: a != b,
-    "gt": lambda a, b: a > b,
-    "ge": lambda a, b: a >= b,
-    "lt": lambda a, b: a < b,
-    "le": lambda a, b: a <= b,
+    "eq": operator.eq,
+    "ne": operator.ne,
+    "gt": operator.gt,
+    "ge": operator.ge,
+    "lt": operator.lt,
+    "le": operator.le,
 }
 
 
@@ -109,15 +110,15 @@ def literal_in(tokens: Tokens, name: str) -> Any:
 def comparison(tokens: Tokens) -> Test:
     """A test of one member by an operator."""
     name = tokens.one_of(*NAMES)
-    operator = tokens.one_of(*COMPARED)
-    if operator in ("eq", "ne") and tokens.seen() == "null":
+    word = tokens.one_of(*COMPARED)
+    if word in ("eq", "ne") and tokens.seen() == "null":
         tokens.one_of("null")
-        return lambda topic: (value_of(topic, name) is None) == (operator == "eq")
+        return lambda topic: (value_of(topic, name) is None) == (word == "eq")
     literal = literal_in(tokens, name)
 
     def test(topic: Tree) -> bool:
         value = value_of(topic, name)
-        return operator == "ne" if value is None else COMPARED[operator](value, literal)
+        return word == "ne" if value is None else COMPARED[word](value, literal)
 
     return test
 

@@ -84,7 +84,8 @@ fn push_topic_at(
     place: u32,
 ) -> Result<(), AllocError>
     ensures { OnOk result (MatchOption (slice_get topics.now place) (trees.new.items ≡ trees.old.items)
-        (λ topic. (v : _) × IsTopicTree project topic (view v) × (trees.new.items ≡ trees.old.items ++ v ∷ []))) }
+        (λ topic. (v : _) × IsTopicTree project topic (view v)
+        × (trees.new.items ≡ trees.old.items ++ v ∷ []))) }
 {
     match topics.get(place as usize) {
         Some(topic) => push_topic(alloc, project, trees, topic.get()),

@@ -76,10 +76,11 @@ fn list_of(
     ensures call { IfOk result (λ made.
         MeansRequest (Ok (Action.AskList project asked.now bad_turn)) made.call.request) }
     ensures seen { IfOk result (λ made. made.call.seen ≡ seen) }
-    ensures lists { IfOk result (λ made. ListsBy (Ok (Action.AskList project asked.now bad_turn)) made.listing) }
+    ensures lists { IfOk result (λ made.
+        ListsBy (Ok (Action.AskList project asked.now bad_turn)) made.listing) }
     ensures none { IfOk result (λ made. BringsNone made.call.request) }
-    ensures fault { IfErr result (λ answer. RefusesCall (Ok (Action.AskList project asked.now bad_turn)) answer
-        ⊎ (answer ≡ Answer.Memory)) }
+    ensures fault { IfErr result (λ answer.
+        RefusesCall (Ok (Action.AskList project asked.now bad_turn)) answer ⊎ (answer ≡ Answer.Memory)) }
 {
     match listing_of(alloc, asked, bad_turn) {
         Ok(listing) => Ok(AskedCall {

@@ -42,7 +42,8 @@ with_list_pair asked name value =
     if bytes_eq name (codes "$filter") then with_filter asked (if_first asked.filter value)
     else (if bytes_eq name (codes "$orderby") then with_order asked (if_first asked.order value)
     else (if bytes_eq name (codes "$skip") then with_skip asked (if_new asked.skip (number_in value))
-    else (if bytes_eq name (codes "$top") then with_top asked (if_new asked.top (number_in value)) else Ok asked)))
+    else (if bytes_eq name (codes "$top") then with_top asked (if_new asked.top (number_in value))
+    else Ok asked)))
 
 -- what comes of a query next, unless a part of it was bad
 abbrev pub if_asked : Result ListAsked QueryName → (ListAsked → Result ListAsked QueryName)
