@@ -58,6 +58,12 @@ IsListingOf asked bad_turn (Ok listing) = AsksListing asked listing × (bad_turn
 IsListingOf asked bad_turn (Err (Fault fault)) = RefusesListing asked bad_turn fault
 IsListingOf asked bad_turn (Err Memory) = ⊤
 
+-- a request for a list has one answer, but for want of memory
+abbrev pub ListRequestsHaveOneAnswer : Type 0
+ListRequestsHaveOneAnswer =
+    (asked : ListAsked) (bad_turn : Bool) (r s : Result Listing Refusal) → IsListingOf asked bad_turn r
+    → IsListingOf asked bad_turn s → (r ≡ s) ⊎ ((r ≡ Err Memory) ⊎ (s ≡ Err Memory))
+
 -- the topics at places of a list
 abbrev pub topics_at : List Topic → List ℕ → List Topic
 topics_at topics places = filter_map (slice_get topics) places

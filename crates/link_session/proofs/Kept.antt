@@ -32,7 +32,7 @@ use Rattle.book_passes.specs.Lessons.{CallerSeen, AllOf, stamp_in, turn_of}
 use Rattle.book_passes.specs.LessonLaws.{TakesCall}
 use Rattle.bcf_http.specs.declared.asked.RequestFault.{RequestFault}
 use Rattle.bcf_http.specs.declared.asked.Action.{Action}
-use Rattle.bcf_http.specs.declared.asked.Action.TheVariants.{Call, Build}
+use Rattle.bcf_http.specs.declared.asked.Action.TheVariants.{Call, Build, AskList}
 use Rattle.bcf_http.specs.declared.answers.Answer.TheVariants as answer
 use Rattle.bcf_http.specs.ReplyKinds.{kind_of}
 use Rattle.bcf_http.specs.Asked.{asked_by}
@@ -220,6 +220,7 @@ means_one : (asked : Result Action RequestFault) (id v first count : ℕ) (reque
     → request ≡ ReadClashes id (Number v) first count
 means_one (Ok (Call one)) id v first count request a b = sym b ∙ a
 means_one (Ok (Build project name mode body)) id v first count request a b = let e = a.2 in cc
+means_one (Ok (AskList project query bad_turn)) id v first count request a b = let e = a.2 in cc
 means_one (Err fault) id v first count request a b = absurd a
 
 -- the request of a call that is made asks for no clashes that are kept
