@@ -28,6 +28,7 @@ from tests.ifc.crowds import (
     two_storeys,
 )
 from tests.ifc.polygons import comb, convex, polygons, strip
+from tests.ifc.voids import faces_with_voids, listed_voids, rings, windows
 from tests.shapes.files import clashes, many_rules, topic, upload
 from tests.support.checks import arguments
 from tests.support.programs import built
@@ -50,6 +51,19 @@ INPUTS: dict[str, Callable[[], bytes]] = {
         polygons(convex(), 1, 1002, sets=100)
     ),
     "1,000 combs": lambda: upload(polygons(comb(), 1000)),
+    "200 faces of 1,000 corners in 50 holes": lambda: upload(
+        faces_with_voids(windows(800, 50, 4), 200)
+    ),
+    "200 faces of 1,000 corners in 300 holes": lambda: upload(
+        faces_with_voids(windows(100, 300, 3), 200)
+    ),
+    "8,000 faces of 16 corners with a hole": lambda: upload(
+        faces_with_voids(windows(8, 1, 8), 8000)
+    ),
+    "a face of 20 rings within one another, listed 10 times": lambda: upload(
+        listed_voids(rings(20), 10)
+    ),
+    "a face of 83 rings within one another": lambda: upload(listed_voids(rings(83), 1)),
     "one comb, shared by 1,000 pipes": lambda: upload(polygons(comb(), 1, 1, 1000)),
     "a set mapped 1,000,000 times": lambda: upload(mapped(1000000)),
     "1,000 sets over a list of 100,000 points": lambda: upload(sharing(1000, 100000)),
