@@ -1,6 +1,8 @@
 //! What requests ask for, and responses against bytes written by hand.
 use bcf_bodies::BodyFault;
-use bcf_http::{Action, Answer, Refusal, ReplyKind, RequestFault, asked_of, to_response};
+use bcf_http::{
+    Action, Answer, Refusal, ReplyKind, RequestFault, asked_of, listing_of, to_response,
+};
 use bcf_topics::{CommentIn, Topic, TopicBody};
 use bcf_viewpoints::ViewPart;
 use bim_model::{Author, Bytes, Items, Mode, Moment, Shared, Text};
@@ -8,6 +10,7 @@ use book_history::{BookFault, BookReply, BookRequest, Horizon, ReplyBody, Wanted
 use clash_rules::RuleFault;
 use http_frame::{FrameFault, HttpRequest, TurnField};
 use http_routes::{ListAsked, QueryName, RoutePath, Routes};
+use odata_filter::Listing;
 use std::alloc::{AllocError, Global};
 use std::process::Abort;
 use std::test::Fail;
@@ -434,7 +437,7 @@ fn a_bad_turn_is_judged_behind_the_query_and_before_the_body(rt: HostRuntime) ->
     let alloc = rt.alloc();
     let topics = "/bcf/3.0/projects/00000001-0000-8000-8000-000000000000/topics";
     for request in [
-        ("GET", topics, ""),
+        ("GET", "/bcf/3.0/projects", ""),
         ("POST", topics, "["),
         ("POST", topics, "{}"),
     ] {
@@ -458,6 +461,61 @@ fn a_bad_turn_is_judged_behind_the_query_and_before_the_body(rt: HostRuntime) ->
     )?;
     let target = "/coord/1/projects/00000001-0000-8000-8000-000000000000/models/m";
     refuses_turn(&rt, alloc, ("PUT", target, ""), RequestFault::BadTurn)
+}
+
+// The fault of a list, if it has one.
+fn fault_of(listing: Result<Listing, Refusal>) -> Option<RequestFault> {
+    match listing {
+        Ok(listing) => {
+            drop(listing);
+            None
+        }
+        Err(Refusal::Fault(fault)) => Some(fault),
+        Err(Refusal::Memory) => None,
+    }
+}
+
+// The fault of a request for a list with a bad turn, once its texts were read.
+fn list_fault(alloc: Global, target: &str) -> Result<Option<RequestFault>, Fail> {
+    let (_, asked) = asked_above(alloc, TurnField::Bad, ("GET", target, ""))?;
+    match asked {
+        Ok(Action::AskList { asked, bad_turn, .. }) => {
+            let fault = fault_of(listing_of(alloc, &asked, bad_turn));
+            drop(asked);
+            Ok(fault)
+        }
+        other => {
+            drop(other);
+            Ok(None)
+        }
+    }
+}
+
+fn refuses_list(
+    rt: &impl Abort,
+    alloc: Global,
+    target: &str,
+    wanted: RequestFault,
+) -> Result<(), Fail> {
+    let fault = list_fault(alloc, target)?;
+    let is_refused = fault == Some(wanted);
+    drop(fault);
+    assert!(rt; is_refused);
+    Ok(())
+}
+
+#[test]
+fn a_bad_turn_of_a_list_is_judged_behind_its_texts(rt: HostRuntime) -> Result<(), Fail> {
+    let alloc = rt.alloc();
+    let target =
+        "/bcf/3.0/projects/00000001-0000-8000-8000-000000000000/topics?$orderby=labels&$filter=title+gt+5";
+    refuses_list(&rt, alloc, target, RequestFault::Filter { at: 9 })?;
+    let target =
+        "/bcf/3.0/projects/00000001-0000-8000-8000-000000000000/topics?$orderby=labels&$filter=title+gt+%275%27";
+    refuses_list(&rt, alloc, target, RequestFault::Order { at: 0 })?;
+    let target =
+        "/bcf/3.0/projects/00000001-0000-8000-8000-000000000000/topics?$orderby=title&$top=2";
+    refuses_list(&rt, alloc, target, RequestFault::BadTurn)
 }
 
 fn pipe(alloc: Global) -> Result<Topic, AllocError> {
@@ -513,6 +571,19 @@ fn listed(alloc: Global) -> Result<Answer, AllocError> {
     Ok(replied(ReplyBody::TopicList(pipes(alloc)?)))
 }
 
+// The same list without its first topic.
+fn listed_behind_the_first(alloc: Global) -> Result<Answer, AllocError> {
+    let horizon = Horizon { newest: [0; 8] };
+    let body = ReplyBody::TopicList(pipes(alloc)?);
+    let listing = Listing {
+        filter: None,
+        order: None,
+        skip: 1,
+        top: None,
+    };
+    Ok(Answer::Listed(BookReply { body, horizon }, listing))
+}
+
 // The response that a method isn't one of the row's.
 fn lacks(path: RoutePath) -> Answer {
     Answer::Refused(RequestFault::Method { path })
@@ -554,6 +625,10 @@ fn topics_are_written(rt: HostRuntime) -> Result<(), Fail> {
     let wanted =
         "HTTP/1.1 200 OK\r\nContent-Type: application/json\r\nX-Book-Turn: 2\r\nContent-Length: 158\r\n\r\n[{\"creation_author\":\"anonymous\",\"creation_date\":\"2024-05-01T12:00:00Z\",\"guid\":\"00000001-0000-8000-8000-000000000001\",\"server_assigned_id\":\"1\",\"title\":\"Pipe\"}]";
     try_answer(&rt, alloc, listed(alloc)?, kind, wanted)?;
+    let kind = (whole(false, false), Some(3), false);
+    let wanted =
+        "HTTP/1.1 200 OK\r\nContent-Type: application/json\r\nX-Book-Turn: 3\r\nContent-Length: 2\r\n\r\n[]";
+    try_answer(&rt, alloc, listed_behind_the_first(alloc)?, kind, wanted)?;
     Ok(())
 }
 
