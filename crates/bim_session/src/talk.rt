@@ -1,10 +1,11 @@
 //! One connection as a machine without input or output, which asks a clock.
-ghost use Rattle.std.specs.Prelude.{◌≡◌, ◌↔◌, ◌+◌, ◌<◌, ◌≤◌, [], None, Some, Ok, false, IsTrue, IsSome, IsOk, IfOk, IfSome, OnOk, OnErr};
+ghost use Rattle.std.specs.Prelude.{◌≡◌, ◌↔◌, ◌+◌, ◌<◌, ◌≤◌, ℕ, Option, [], None, Some, Ok, false, IsTrue, IsSome, IsOk, IfOk, IfSome, OnOk, OnErr};
 ghost use Rattle.bim_model.specs.Moments.{IsMoment};
 ghost use Rattle.http_frame.specs.Framers.{Stands};
 ghost use Rattle.bim_session.specs.Session.{most_requests, closes_after, continue_bytes, answer_by, IsFaultResponse};
 ghost use Rattle.bcf_http.specs.Answers.{IsResponse};
 ghost use Rattle.bim_session.specs.ShelfNotes.{project_read, Noted};
+ghost use Rattle.bim_session.specs.declared.notes.Notes.{Notes};
 ghost use Rattle.bim_session.specs.Talking.{fresh, Feeds, Stays, with_answer, with_call, with_fault, with_framer, with_memory, with_notes, with_spent, with_end, AsksFor, waiting_on, IsNoted, KeepsNone, WantsFor, Writes, Wants, StopsNext, LacksNext, Replies, LacksFor, AtRest, IsReady, IsOwnEnd, IsOwnLeaving, IsOwnWant, leaving_after, asks_change, is_refusal, changes_nothing, IsCallable};
 
 use crate::calls::{AskedCall, call_of};
@@ -144,9 +145,11 @@ fn response_of(
     bytes
 }
 
-// The answer that a reply of the book makes, whose topics may be listed.
+// The answer that a reply of the book makes, whose topics may be listed; what is noted of it is the reply's.
 fn answer_by(listing: Option<Listing>, reply: BookReply) -> Answer
-    ensures { result ≡ answer_by listing reply }
+    ensures answer { result ≡ answer_by listing reply }
+    ensures noted { (turn : ℕ) (reads : Option ℕ) (old new : Notes) → IsNoted turn reads result old new
+        → Noted turn reads reply old new }
 {
     match listing {
         Some(listing) => Answer::Listed(reply, listing),
@@ -376,7 +379,8 @@ impl Talk {
         let close = closes_after(&request, self.served + 1);
         let (kind, call) = call_of(self.alloc, &self.routes, request, moment);
         match call {
-            Ok(AskedCall { call, listing }) => {
+            Ok(asked) => {
+                let AskedCall { call, listing } = asked;
                 let waiting = Waiting {
                     kind,
                     close,
