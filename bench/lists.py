@@ -30,8 +30,10 @@ DEEP = joined("(" * 32 + "title eq ''" + ")" * 32, "contains(title,'overlaps')")
 SEARCHING = joined("contains(description,'ab')", "contains(description,'ab')")
 ALL_KEPT = "title ne 'x' and index ge 0"
 
+Row = tuple[str, str | None, str | None, int | None]
+
 # What is measured: its name, the filter, the order, and how many are listed at most.
-ROWS: list[tuple[str, str | None, str | None, int | None]] = [
+ROWS: list[Row] = [
     ("all", None, None, None),
     ("all, filtered", ALL_KEPT, None, None),
     ("all, ordered", None, "title,index desc,creation_date", None),
@@ -41,6 +43,7 @@ ROWS: list[tuple[str, str | None, str | None, int | None]] = [
     ("the first 20, filtered and ordered", ALL_KEPT, "index desc", 20),
     ("none, by a filter 32 deep", DEEP, None, None),
 ]
+DESCRIBED: list[Row] = [("none, by a search of descriptions", SEARCHING, None, None)]
 
 
 def topics(count: int, described: bool) -> list[bytes]:
@@ -78,10 +81,7 @@ def main() -> int:
     given = parser.parse_args()
     program = built(given.program)
     whole = None
-    for described, rows in (
-        (False, ROWS),
-        (True, [("none, by a search of descriptions", SEARCHING, None, None)]),
-    ):
+    for described, rows in ((False, ROWS), (True, DESCRIBED)):
         first = topics(given.topics, described)
         before = taken(program, given.runs, first)
         for name, kept, order, top in rows:
