@@ -126,10 +126,10 @@ impl Board {
         };
         let put = put_in(alloc, topic, body, author)?;
         let Put { told, body, author } = put;
-        match self.topics.put_topic(serial, body, author) {
-            Ok(()) => Ok(told),
-            Err(_) => Err(AllocError),
-        }
+        let Ok(()) = self.topics.put_topic(serial, body, author) else {
+            return Err(AllocError);
+        };
+        Ok(told)
     }
 
     /// Deletes a topic with its comments and viewpoints. Takes no memory.

@@ -13,28 +13,21 @@ unreachable-requires c =
     let there = subst (λ (b : BoardState). IsSome (topic_at b c.args.serial)) (sym c.self.view_is) c.requires in
     false≢true (subst (λ (o : Option Topic). IsSome o) (sym c.topic.ensures ∙ ap option_copied c.in_default.is) there)
 
-pub invariant_of-self : goal.invariant_of-self
-invariant_of-self c =
+pub invariant_of-self-2 : goal.invariant_of-self-2
+invariant_of-self-2 c =
     let b = board c.self.inside.topics c.self.inside.views c.self.inside.made in
     rw c.in-Ok.ensures.after (topic_replaced_is b c.args.serial c.in_ok-put.put.body c.in_ok-put.put.author c.self.invariant)
 
-pub returns-in-Ok-clause-told : goal.returns-in-Ok-clause-told
-returns-in-Ok-clause-told c =
+pub returns-clause-told : goal.returns-clause-told
+returns-clause-told c =
     let put = topic_put c.args.body.now c.args.author.now in
     let found = sym (ap option_copied c.in-Some.is) ∙ c.topic.ensures in
     ap (λ (t : Topic). Some t) c.in_ok-put.ensures.told ∙ ap (option_map put) found
     ∙ ap (λ (b : BoardState). option_map put (topic_at b c.args.serial)) c.self.view_is
 
-pub returns-in-Ok-clause-ok : goal.returns-in-Ok-clause-ok
-returns-in-Ok-clause-ok c =
+pub returns-clause-ok : goal.returns-clause-ok
+returns-clause-ok c =
     let b = board c.self.inside.topics c.self.inside.views c.self.inside.made in
     ap (λ (d : Discussion). board d b.views b.made) c.in-Ok.ensures.after
     ∙ ap₂ (topic_replaced b c.args.serial) c.in_ok-put.ensures.body c.in_ok-put.ensures.author
     ∙ ap (λ (x : BoardState). topic_replaced x c.args.serial c.args.body.now c.args.author.now) c.self.view_is
-
-pub invariant_of-self-2 : goal.invariant_of-self-2
-invariant_of-self-2 c = rw c.in-Err.ensures.after c.self.invariant
-
-pub returns-in-Err-clause-err : goal.returns-in-Err-clause-err
-returns-in-Err-clause-err c =
-    ap (λ (d : Discussion). board d c.self.inside.views c.self.inside.made) c.in-Err.ensures.after ∙ c.self.view_is
