@@ -20,18 +20,18 @@ use Rattle.bcf_http.specs.ListRequests.{SpellsIf, IsBadAt, AsksListing, RefusesL
 
 ok_ok : {A : Type 0} (x y : A) → AreOneReading (Ok x) (Ok y) → Some x ≡ Some y
 ok_ok x y (inl same) = cc
-ok_ok x y (inr (inl no)) = cc
-ok_ok x y (inr (inr no)) = cc
+ok_ok x y (inr (inl short)) = cc
+ok_ok x y (inr (inr short)) = cc
 
 ok_bad : {A : Type 0} (x : A) (at : ℕ) → AreOneReading (Ok x) (Err (Bad at)) → ⊥
 ok_bad x at (inl same) = cc
-ok_bad x at (inr (inl no)) = cc
-ok_bad x at (inr (inr no)) = cc
+ok_bad x at (inr (inl short)) = cc
+ok_bad x at (inr (inr short)) = cc
 
-bad_bad : {A : Type 0} (a b : ℕ) → AreOneReading {A} (Err (Bad a)) (Err (Bad b)) → a ≡ b
+bad_bad : {A : Type 0} (a b : ℕ) → AreOneReading {A = A} (Err (Bad a)) (Err (Bad b)) → a ≡ b
 bad_bad a b (inl same) = cc
-bad_bad a b (inr (inl no)) = cc
-bad_bad a b (inr (inr no)) = cc
+bad_bad a b (inr (inl short)) = cc
+bad_bad a b (inr (inr short)) = cc
 
 module _ {A : Type 0} (Means : List Lexeme → A → Type 0) (one : HasOneReading Means) where
   -- a text spells one thing
@@ -50,7 +50,7 @@ module _ {A : Type 0} (Means : List Lexeme → A → Type 0) (one : HasOneReadin
   -- at one place
   one_place : (text : Option (List ℕ)) (a b : ℕ) → IsBadAt Means text a → IsBadAt Means text b → a ≡ b
   one_place None a b d e = absurd d
-  one_place (Some text) a b d e = bad_bad {A} a b (one text (Err (Bad a)) (Err (Bad b)) d e)
+  one_place (Some text) a b d e = bad_bad {A = A} a b (one text (Err (Bad a)) (Err (Bad b)) d e)
 
 filters_one : HasOneReading IsFilter
 filters_one text r s d e = one_reading IsFilter text (means_one reads_filters (lexemes_of text)) r s d e
