@@ -62,10 +62,10 @@ pub picked_more : {A : Type 0} (IsTree : A → Data → Type 0) (xs : List A) (p
     → AreTrees IsTree (filter_map (slice_get xs) (take i ps)) (items_view old)
     → AreTrees IsTree (filter_map (slice_get xs) (take (i + 1) ps)) (items_view new)
 picked_more IsTree xs ps i old new lt put are =
-  let more : filter_map (slice_get xs) (take (i + 1) ps) ≡ filter_map (slice_get xs) (take i ps) ++ cons_option (slice_get xs (get_or ps i 0)) []
-      = ap (filter_map (slice_get xs)) (take_more ps i 0 lt) ∙ filter_map-append (slice_get xs) (take i ps) (get_or ps i 0 ∷ []) in
-  subst (λ ys. AreTrees IsTree ys (items_view new)) (sym more)
-  (trees_put IsTree (filter_map (slice_get xs) (take i ps)) (slice_get xs (get_or ps i 0)) old new put are)
+    let more : filter_map (slice_get xs) (take (i + 1) ps) ≡ filter_map (slice_get xs) (take i ps) ++ cons_option (slice_get xs (get_or ps i 0)) []
+    = ap (filter_map (slice_get xs)) (take_more ps i 0 lt) ∙ filter_map-append (slice_get xs) (take i ps) (get_or ps i 0 ∷ []) in
+    subst (λ ys. AreTrees IsTree ys (items_view new)) (sym more)
+    (trees_put IsTree (filter_map (slice_get xs) (take i ps)) (slice_get xs (get_or ps i 0)) old new put are)
 
 -- trees for all places are the array of what is there
 pub picked_all : {A : Type 0} (IsTree : A → Data → Type 0) (xs : List A) (ps : List ℕ) (i : ℕ) (trees : Vec Value Global) → length ps ≤ i
