@@ -51,12 +51,13 @@ impl Model for Talk {
     ghost use Rattle.std.specs.Prelude.{◌≡◌, ◌<◌, ◌≤◌, None};
     ghost use Rattle.std.specs.Coded.{codes};
     ghost use Rattle.http_frame.specs.contracts.framer.Framer as the_framer;
+    ghost use Rattle.odata_filter.specs.contracts.filter.Filter as the_filter;
     ghost use Rattle.bim_session.specs.Session.{most_requests};
     ghost use Rattle.bim_session.specs.Talking.{TalkState, IsOwnLeaving};
 
     ghost Value = { TalkState };
 
-    ghost coded = { Prim.hlevel (codes, the_framer.the_row.coded) };
+    ghost coded = { Prim.hlevel (codes, the_framer.the_row.coded, the_filter.the_row.coded) };
 
     ghost view = { λ t. record {
       framer = t.framer;
