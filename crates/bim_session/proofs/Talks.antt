@@ -140,7 +140,7 @@ requested : (old new : TalkState) (f : Framer) (m : ℕ) (r : HttpRequest) (want
     → WantsFor m r (with_framer f old) want new → Wants a b old want new
 requested old new f m r More a b here steps gives wants = absurd wants
 requested old new f m r (Call call) a b here steps gives wants = λ rest told stands.
-    let same : new.framer ≡ f = ap (λ (s : TalkState). s.framer) wants.4 in (
+    let same : new.framer ≡ f = ap (λ (s : TalkState). s.framer) wants.2.2 in (
       m ∷ [],
       gives,
       (
@@ -149,10 +149,12 @@ requested old new f m r (Call call) a b here steps gives wants = λ rest told st
           took m r f new.framer rest told (steps rest told stands) same,
           wants.0,
           wants.1,
-          wants.2,
-          wants.3,
-          wants.4
-              ∙ ap (λ (g : Framer). with_call (waiting_for r (old.served + 1) (asks_change call.request) (project_read call.request) wants.2) (with_framer g old)) (sym same),
+          (
+            wants.2.0,
+            wants.2.1,
+            wants.2.2
+              ∙ ap (λ (g : Framer). with_call (waiting_for r (old.served + 1) (asks_change call.request) (project_read call.request) wants.2.0) (with_framer g old)) (sym same),
+          ),
         ),
       ),
     )
@@ -230,7 +232,7 @@ asks_wants m r waiting call listing old new (Write bytes) is means lists asks = 
 )
 asks_wants m r waiting call listing old new (Call other) is means lists asks =
     subst (λ (c : BookCall). WantsFor m r old (Call c) new) (sym asks.0)
-    (means, asks.1, listing, lists, asks.2 ∙ ap (λ (w : Waiting). with_call (waiting_on call w) old) is)
+    (means, asks.1, (listing, lists, asks.2 ∙ ap (λ (w : Waiting). with_call (waiting_on call w) old) is))
 asks_wants m r waiting call listing old new (Leave e) is means lists asks = absurd asks
 
 -- what is wanted for the call

@@ -432,11 +432,11 @@ asks_of k v w a b old mid server so call waiting wants waits =
       one = x.0;
       means = x.1;
       asks_none = x.2;
-      listing = x.3;
-      lists = x.4;
-      state = x.5;
-      waiting_is = same_waiting mid.waits (waiting_at x.0.request (old.served + 1) call x.3) waiting (ap (λ (z : TalkState). z.waits) x.5) waits
-          ∙ ap (λ (n : ℕ). waiting_at x.0.request (n + 1) call x.3) so.served;
+      listing = x.3.0;
+      lists = x.3.1;
+      state = x.3.2;
+      waiting_is = same_waiting mid.waits (waiting_at x.0.request (old.served + 1) call x.3.0) waiting (ap (λ (z : TalkState). z.waits) x.3.2) waits
+          ∙ ap (λ (n : ℕ). waiting_at x.0.request (n + 1) call x.3.0) so.served;
     }
 
 module _ (k : Service) (v : CallerSeen) (w a b : Outside) (old mid : TalkState) (server server' : CallerSeen) (so : SoFar k v w a old server) (call : BookCall) (waiting : Waiting)
