@@ -8,6 +8,7 @@ from typing import Any
 
 from .api_md import TOPICS, ApiText, read_api
 from .document import Document, Node, Operation
+from .list_texts import CODES
 
 API, DOC = "docs/API.md", "docs/openapi.yaml"
 HEAD, TARGETS = "The head and the body of a request", "Targets, methods, queries"
@@ -121,6 +122,8 @@ class Agreement:
             wanted -= {"H9"}
         if not operation.of("query"):
             wanted -= {"H11"}
+        kinds = {it.get("x-text-of") for it in operation.of("query")}
+        wanted -= {code for kind, code in CODES.items() if kind not in kinds}
         yield from _only(f"{operation.name}: the code", wanted, found & everywhere)
 
     def answers(self) -> Iterator[str]:
@@ -178,10 +181,9 @@ class Agreement:
 
     def queries(self) -> Iterator[str]:
         """The parts of queries."""
-        there = {
-            self._section(it): {p["name"] for p in it.of("query")}
-            for it in self.document.operations
-        }
+        there: dict[str, set[str]] = {}
+        for it in self.document.operations:
+            there.setdefault(self._section(it), set()).update(p["name"] for p in it.of("query"))
         for section, names in there.items():
             here = self.api.query_of_section.get(section, set())
             yield from _only(f"{section}: the part of the query", here, names)

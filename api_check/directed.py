@@ -11,6 +11,7 @@ from .document import Document, Operation
 from .faults_of_bytes import faulty
 from .files import TWO_PIPES, files_of_cases
 from .judge import Judge
+from .list_texts import CODES
 from .scene import BODIES, RULES, Scene, project, target
 from .wire import CutOff, Reply, Request
 
@@ -120,9 +121,13 @@ class Directed:
             above = replace(good, fields=(("X-Book-Turn", turn),))
             yield Asked(method, above.bytes(), turn_status, turn_code)
         if operation.of("query"):
-            part = operation.of("query")[0]["name"]
+            part = operation.of("query")[-1]["name"]
             bad = replace(good, target=f"{good.target}?{part}=")
             yield Asked(method, bad.bytes(), 400, "H11")
+        for it in operation.of("query"):
+            if kind := it.get("x-text-of"):
+                bad = replace(good, target=f"{good.target}?{it['name']}=")
+                yield Asked(method, bad.bytes(), 400, CODES[kind])
         if "application/json" in operation.body:
             yield Asked(method, replace(good, body=b"[]").bytes(), 400, "H9")
         for code, body in self._bad_bodies(operation):

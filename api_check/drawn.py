@@ -15,6 +15,7 @@ from .document import Node
 from .faults_of_bytes import faulty
 from .files import files_of_cases
 from .judge import Judge
+from .list_texts import CODES, TEXTS
 from .places import KEPT
 from .plans import Plan, Plans
 from .scene import Scene, project
@@ -94,6 +95,16 @@ class Expected:
             return False
         return all(self._value_fits(parts[name], value) for name, value in known)
 
+    @staticmethod
+    def _text_fault(plan: Plan) -> str | None:
+        """The code of the first text of a filter or an order that isn't taken."""
+        given = dict(plan.query)
+        for part in plan.operation.of("query"):
+            kind = part.get("x-text-of")
+            if kind and part["name"] in given and not TEXTS[kind][given[part["name"]]]:
+                return CODES[kind]
+        return None
+
     def _value_fits(self, schema: Node, value: str) -> bool:
         if schema["type"] == "integer":
             return value.isdecimal() and self._judge.schemas.takes(schema, int(value))
@@ -119,6 +130,8 @@ class Expected:
             return 415, "H12"
         if not self._query_fits(plan):
             return 400, "H11"
+        if code := self._text_fault(plan):
+            return 400, code
         if "application/json" not in plan.operation.body:
             return True if not plan.operation.body else None
         if plan.data is not None or not isinstance(plan.tree, dict):

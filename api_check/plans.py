@@ -10,9 +10,10 @@ from typing import Any
 
 from hypothesis import strategies as st
 
-from .document import Document, Operation
+from .document import Document, Node, Operation
 from .drawing import Drawing, Values
 from .faults_of_bytes import faulty
+from .list_texts import TEXTS
 from .wire import Request
 
 USERS = ("", "eva", "j\u00f6rg", "u" * 128)
@@ -59,15 +60,19 @@ class _Parts:
     def __init__(self, drawing: Drawing, operation: Operation) -> None:
         self.operation = operation
         self.path = [it["name"] for it in operation.of("path")]
-        self.query = [
-            (it["name"], st.one_of(drawing.fits(it["schema"]), st.sampled_from(ODD_QUERIES)))
-            for it in operation.of("query")
-        ]
+        self.query = [(it["name"], self._values(drawing, it)) for it in operation.of("query")]
         self.trees: Values | None = None
         if "application/json" in operation.body:
             schema = operation.body["application/json"]["schema"]
             good, bad = drawing.fits(schema), drawing.broken(schema)
             self.trees = st.one_of(good, good, bad)
+
+    @staticmethod
+    def _values(drawing: Drawing, part: Node) -> Values:
+        """What a part of the query is asked with."""
+        if "x-text-of" in part:
+            return st.sampled_from(sorted(TEXTS[part["x-text-of"]]))
+        return st.one_of(drawing.fits(part["schema"]), st.sampled_from(ODD_QUERIES))
 
 
 ODD_PARTS = st.one_of(

@@ -10,6 +10,7 @@ from tests.oracle.bodies import comment_in, identifier_in, object_in, rules_in, 
 from tests.oracle.book import Book
 from tests.oracle.faults import Answer, Refused, Tree, error
 from tests.oracle.framing import Request
+from tests.oracle.lists import Bad, filter_in, order_in
 from tests.oracle.model_file import build
 from tests.oracle.model_file.lengths import PER_MM
 from tests.oracle.versions import MOST_ELEMENTS, MOST_MEMBERSHIPS, Models, Version, memberships_of
@@ -44,7 +45,11 @@ READERS: dict[str, Any] = {
     "views": view_in,
     "rules": rules_in,
 }
-QUERIES = {"model": [b"grid"], "clashes": [b"first", b"count"]}
+QUERIES = {
+    "model": [b"grid"],
+    "clashes": [b"first", b"count"],
+    "list": [b"$filter", b"$orderby", b"$skip", b"$top"],
+}
 PARTS = ("selection", "coloring", "visibility")
 
 
@@ -68,7 +73,7 @@ class Asked:
     user: str
     seen: int | None  # the turn that the request gives
     body: Any
-    query: dict[bytes, bytes]
+    query: dict[bytes, Any]
 
 
 def path_of(target: str) -> str | None:
@@ -117,8 +122,10 @@ def is_good(name: bytes, value: bytes) -> bool:
     """Whether a parameter of a query may have the value."""
     if name == b"grid":
         return value in (b"exact", b"snap")
+    if name in (b"$filter", b"$orderby"):
+        return True
     return re.fullmatch(rb"[0-9]{1,15}", value) is not None and (
-        name == b"first" or 1 <= int(value) <= 1000
+        name != b"count" or 1 <= int(value) <= 1000
     )
 
 
@@ -127,7 +134,8 @@ def query_of(kind: str, target: str) -> dict[bytes, bytes]:
     given: dict[bytes, bytes] = {}
     for piece in filter(None, target.partition("?")[2].split("&")):
         name, value = (
-            urllib.parse.unquote_to_bytes(p.replace("+", " ")) for p in piece.partition("=")[::2]
+            urllib.parse.unquote_to_bytes(p.replace("+", " ").encode("latin-1"))
+            for p in piece.partition("=")[::2]
         )
         if name not in QUERIES.get(kind, []):
             continue
@@ -135,6 +143,22 @@ def query_of(kind: str, target: str) -> dict[bytes, bytes]:
             raise Refused("H11", "Query", 400, name=name.decode())
         given[name] = value
     return given
+
+
+def listing_of(query: dict[bytes, bytes]) -> dict[bytes, Any]:
+    """The parameters of a list, with what the texts of the filter and of the order say."""
+    read: dict[bytes, Any] = dict(query)
+    for name, reader, code, word in (
+        (b"$filter", filter_in, "H14", "Filter"),
+        (b"$orderby", order_in, "H15", "Order"),
+    ):
+        if name not in query:
+            continue
+        try:
+            read[name] = reader(query[name].decode(errors="replace").encode())
+        except Bad as bad:
+            raise Refused(code, word, 400, at=bad.at) from None
+    return read
 
 
 def body_of(kind: str, method: str, body: bytes, query: dict[bytes, bytes]) -> Any:
@@ -161,7 +185,10 @@ def answer(book: Book, request: Request) -> Answer:
     if request.encoded:
         return Refused("H12", "Encoding", 415).answer()
     try:
-        query = query_of(resource.kind, target)
+        is_list = resource.kind == "topics" and method == "GET" and len(resource.ids) == 1
+        query: dict[bytes, Any] = query_of("list" if is_list else resource.kind, target)
+        if is_list:
+            query = listing_of(query)
         if request.bad_turn:
             raise Refused("H13", "TurnField", 400)
         body = body_of(resource.kind, method, request.body, query)
@@ -188,7 +215,9 @@ def in_turn(book: Book, asked: Asked) -> Answer:
         return book.booked(200, project_tree(number))
     board = book.boards[number]
     if kind == "topics":
-        return book.booked(*on_topics(board, asked.method, asked.body, asked.user, ids[1:]))
+        return book.booked(
+            *on_topics(board, asked.method, asked.body, asked.user, ids[1:], asked.query)
+        )
     if kind == "comments":
         return book.booked(*on_comments(board, asked.method, asked.body, asked.user, ids[1:]))
     if kind in ("views", "part"):

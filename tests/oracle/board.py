@@ -1,7 +1,10 @@
 """What is said in a project: topics, comments and viewpoints."""
 
+from typing import Any
+
 from tests.oracle.dates import date_of
 from tests.oracle.faults import Tree, error
+from tests.oracle.lists import listed
 
 TOPIC_KEPT = ("creation_author", "creation_date", "guid", "server_assigned_id")
 COMMENT_KEPT = ("author", "date", "guid", "topic_guid")
@@ -58,10 +61,12 @@ class Board:
         self.views = {s: v for s, v in self.views.items() if v[0] != serial}
 
 
-def on_topics(board: Board, method: str, body: Tree, user: str, ids: Ids) -> Reply:
+def on_topics(
+    board: Board, method: str, body: Tree, user: str, ids: Ids, query: dict[bytes, Any]
+) -> Reply:
     if not ids:
         if method == "GET":
-            return 200, [board.topics[s] for s in sorted(board.topics)]
+            return 200, listed([board.topics[s] for s in sorted(board.topics)], query)
         return 201, board.topic(board.next(), body, user)
     serial = board.serial(ids[0])
     if serial is None or serial not in board.topics:

@@ -16,14 +16,16 @@ use Rattle.bcf_bodies.specs.CommentTrees.{IsCommentTree}
 use Rattle.bcf_bodies.specs.ViewTrees.{whole_tree}
 use Rattle.coord_json.specs.RuleTrees.{rule_items}
 use Rattle.coord_json.proofs.Floats.{version_has_none, models_have_none, rules_have_none, changed_has_none, clashes_have_none, pending_has_none}
-use Rattle.error_json.proofs.ErrorFloats.{error_has_none, named_has_none, full_has_none, place_has_none, turn_has_none, store_has_none, newest_has_none, dropped_has_none, upload_has_none, rule_fault_has_none}
+use Rattle.error_json.proofs.ErrorFloats.{error_has_none, at_has_none, named_has_none, full_has_none, place_has_none, turn_has_none, store_has_none, newest_has_none, dropped_has_none, upload_has_none, rule_fault_has_none}
 use Rattle.bcf_http.specs.declared.asked.RequestFault.{RequestFault}
-use Rattle.bcf_http.specs.declared.asked.RequestFault.TheVariants.{NoRoute, Method, Encoding, Query, BadTurn, BadJson, Rules, Body}
+use Rattle.bcf_http.specs.declared.asked.RequestFault.TheVariants.{NoRoute, Method, Encoding, Query, Filter, Order, BadTurn, BadJson, Rules, Body}
 use Rattle.http_frame.specs.declared.types.FrameFault.{FrameFault}
 use Rattle.http_frame.specs.declared.types.FrameFault.TheVariants as frame
 use Rattle.bcf_http.specs.declared.answers.Answer.{Answer}
+use Rattle.odata_filter.specs.declared.listing.Listing.{Listing}
+use Rattle.bcf_http.specs.ListRequests.{topics_at}
 use Rattle.bcf_http.specs.declared.answers.Answer.TheVariants as answer
-use Rattle.bcf_http.specs.Answers.{IsReplyTree, IsAnswerTree, IsAnswerText, body_fault_tree, project_tree, request_fault_tree, book_fault_tree, frame_fault_tree}
+use Rattle.bcf_http.specs.Answers.{IsReplyTree, IsListedTree, IsAnswerTree, IsAnswerText, body_fault_tree, project_tree, request_fault_tree, book_fault_tree, frame_fault_tree}
 use Rattle.bcf_http.proofs.BodyFloats.{topic_has_none, comment_has_none, view_has_none, whole_has_none, items_have_none, trees_have_none}
 
 body_fault_has_none : (fault : BodyFault) → has_float (body_fault_tree fault) ≡ false
@@ -81,6 +83,8 @@ fault_has_none NoRoute = error_has_none _ _
 fault_has_none (Method row) = error_has_none _ _
 fault_has_none Encoding = error_has_none _ _
 fault_has_none (Query name) = named_has_none _ _ _
+fault_has_none (Filter at) = at_has_none _ _ at
+fault_has_none (Order at) = at_has_none _ _ at
 fault_has_none BadTurn = error_has_none _ _
 fault_has_none BadJson = error_has_none _ _
 fault_has_none (Rules fault) = rule_fault_has_none fault
@@ -94,8 +98,16 @@ frame_has_none frame.BodyTooLong = error_has_none _ _
 frame_has_none frame.BadChunk = error_has_none _ _
 frame_has_none frame.Version = error_has_none _ _
 
+-- a reply whose topics are listed
+listed_has_none : (project : ℕ) (part : ViewPart) (listing : Listing) (body : ReplyBody) (tree : Data)
+    → IsListedTree project part listing body tree → has_float tree ≡ false
+listed_has_none project part listing (reply.TopicList topics) tree (places, listed, (items, are, is)) =
+    ap has_float is ∙ trees_have_none (IsTopicTree project) (topic_has_none project) (topics_at topics places) items are
+listed_has_none project part listing other tree is = reply_has_none project part other tree is
+
 has_none : (project : ℕ) (part : ViewPart) (a : Answer) (tree : Data) → IsAnswerTree project part a tree → has_float tree ≡ false
 has_none project part (answer.Book reply) tree is = reply_has_none project part reply.body tree is
+has_none project part (answer.Listed reply listing) tree is = listed_has_none project part listing reply.body tree is
 has_none project part (answer.Refused fault) tree is = ap has_float is ∙ fault_has_none fault
 has_none project part (answer.Built fault) tree is = ap has_float is ∙ upload_has_none fault
 has_none project part (answer.Frame fault) tree is = ap has_float is ∙ frame_has_none fault

@@ -1,6 +1,8 @@
 -- Trees for the elements of a list, one after another.
-use Rattle.std.proofs.Common.{◌≡◌, ◌+◌, ◌<◌, ◌≤◌, ℕ, List, [], ◌∷◌, ◌++◌, length, map, take, get_or, Vec, Global, sym, subst, ◌∙◌, ap}
-use Rattle.std.proofs.lemmas.List.{take_more, take_all, get_or_default}
+use Rattle.std.proofs.Common.{Option, Some, None, MatchOption, ◌≡◌, ◌+◌, ◌<◌, ◌≤◌, ℕ, List, [], ◌∷◌, ◌++◌, length, map, take, get_or, Vec, Global, sym, subst, ◌∙◌, ap}
+use Rattle.std.proofs.lemmas.List.Elements.{filter_map-append}
+use Rattle.std.proofs.lemmas.List.{take_more, take_all, get_or_default, append-nil}
+use Rattle.std.specs.List.{slice_get, filter_map, cons_option}
 use Rattle.serde_json.specs.Data.{Data, array}
 use Rattle.serde_json.specs.View.{view, items_of, items_view}
 use Rattle.serde_json.specs.declared.value.Value.{Value, Array}
@@ -42,3 +44,35 @@ pub listed_all : {A : Type 0} (tree : A → Data) (xs : List A) (i : ℕ) (trees
     → map view trees.items ≡ map tree (take i xs) → view (Array trees) ≡ array (listed tree xs)
 listed_all tree xs i trees all are =
     view-Array trees ∙ ap (λ ds. array (items_of ds)) (are ∙ ap (map tree) (take_all i xs all))
+
+-- ---- the elements at places
+
+-- what is at one more place, if something is
+trees_put : {A : Type 0} (IsTree : A → Data → Type 0) (xs : List A) (found : Option A) (old new : List Value)
+    → MatchOption found (new ≡ old) (λ x. (v : Value) × IsTree x (view v) × (new ≡ old ++ v ∷ []))
+    → AreTrees IsTree xs (items_view old) → AreTrees IsTree (xs ++ cons_option found []) (items_view new)
+trees_put IsTree xs None old new same are =
+    subst (λ ys. AreTrees IsTree ys (items_view new)) (sym (append-nil xs)) (subst (λ vs. AreTrees IsTree xs (items_view vs)) (sym same) are)
+trees_put IsTree xs (Some x) old new put are =
+    subst (λ vs. AreTrees IsTree (xs ++ x ∷ []) (items_view vs)) (sym put.2) (trees_push IsTree xs old x put.0 are put.1)
+
+-- one more tree stands for what is at one more place
+pub picked_more : {A : Type 0} (IsTree : A → Data → Type 0) (xs : List A) (ps : List ℕ) (i : ℕ) (old new : List Value) → i < length ps
+    → MatchOption (slice_get xs (get_or ps i 0)) (new ≡ old) (λ x. (v : Value) × IsTree x (view v) × (new ≡ old ++ v ∷ []))
+    → AreTrees IsTree (filter_map (slice_get xs) (take i ps)) (items_view old)
+    → AreTrees IsTree (filter_map (slice_get xs) (take (i + 1) ps)) (items_view new)
+picked_more IsTree xs ps i old new lt put are =
+    let more : filter_map (slice_get xs) (take (i + 1) ps) ≡ filter_map (slice_get xs) (take i ps) ++ cons_option (slice_get xs (get_or ps i 0)) []
+    = ap (filter_map (slice_get xs)) (take_more ps i 0 lt) ∙ filter_map-append (slice_get xs) (take i ps) (get_or ps i 0 ∷ []) in
+    subst (λ ys. AreTrees IsTree ys (items_view new)) (sym more)
+    (trees_put IsTree (filter_map (slice_get xs) (take i ps)) (slice_get xs (get_or ps i 0)) old new put are)
+
+-- trees for all places are the array of what is there
+pub picked_all : {A : Type 0} (IsTree : A → Data → Type 0) (xs : List A) (ps : List ℕ) (i : ℕ) (trees : Vec Value Global) → length ps ≤ i
+    → AreTrees IsTree (filter_map (slice_get xs) (take i ps)) (items_view trees.items)
+    → IsArrayOf IsTree (filter_map (slice_get xs) ps) (view (Array trees))
+picked_all IsTree xs ps i trees all are = (
+  items_view trees.items,
+  subst (λ qs. AreTrees IsTree (filter_map (slice_get xs) qs) (items_view trees.items)) (take_all i ps all) are,
+  view-Array trees,
+)

@@ -5,3 +5,4 @@ pub mod Floats
 pub mod Plain
 pub mod Projects
 pub mod BadTurns
+pub mod OneListRequest

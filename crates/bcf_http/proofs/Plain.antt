@@ -13,7 +13,7 @@ use Rattle.bcf_http.specs.declared.asked.RequestFault.TheVariants.{NoRoute, Meth
 use Rattle.bcf_http.specs.declared.asked.Refusal.{Refusal}
 use Rattle.bcf_http.specs.declared.asked.Refusal.TheVariants.{Fault, Memory}
 use Rattle.bcf_http.specs.declared.asked.Action.{Action}
-use Rattle.bcf_http.specs.declared.asked.Action.TheVariants.{Call, Build}
+use Rattle.bcf_http.specs.declared.asked.Action.TheVariants.{Call, Build, AskList}
 use Rattle.book_history.specs.declared.requests.BookRequest.{BookRequest}
 use Rattle.book_history.specs.declared.requests.BookRequest.TheVariants.{ReadTopic, DeleteTopic, ReadComment, DeleteComment, ReadView, DeleteView, Remove}
 use Rattle.bcf_bodies.specs.TopicBodies.{topic_body}
@@ -21,10 +21,12 @@ use Rattle.bcf_bodies.specs.CommentBodies.{comment_body}
 use Rattle.bcf_bodies.specs.ViewBodies.{view_body}
 use Rattle.http_routes.specs.Targets.{query_of}
 use Rattle.http_routes.specs.Queries.{grid_asked, page_asked}
+use Rattle.http_routes.specs.declared.list_query.ListAsked.{ListAsked}
+use Rattle.http_routes.specs.ListQueries.{list_asked}
 use Rattle.http_routes.specs.declared.resource.TopicPlace.{TopicPlace}
 use Rattle.http_routes.specs.declared.resource.TopicPlace.TheVariants as place
 use Rattle.http_routes.specs.Resources.{Place, projects, project, topics, of_topic, model, rules, version, clashes, clash, place_of}
-use Rattle.bcf_http.specs.Asked.{object_of, is_method, asked_as, call_with, topics_call, topic_call, comments_call, comment_call, views_call, call_of_topic, model_asked, model_asked_by, rules_asked, rules_call, clashes_call, place_asked, judged, asked_at, asked_without_turn, with_bad_turn, with_turn, asked_by, IsAskedAs, BringsNone, AsksNone}
+use Rattle.bcf_http.specs.Asked.{object_of, is_method, asked_as, call_with, list_call, topics_call, topic_call, comments_call, comment_call, views_call, call_of_topic, model_asked, model_asked_by, rules_asked, rules_call, clashes_call, place_asked, judged, asked_at, asked_without_turn, with_bad_turn, with_turn, asked_by, IsAskedAs, BringsNone, AsksNone}
 
 abbrev AllNone : Result Action RequestFault → Type 0
 AllNone r = IfOk r AsksNone
@@ -43,9 +45,14 @@ with_none : {A : Type 0} (ask : A → BookRequest) (r : Result A RequestFault) �
 with_none ask (Ok body) none = none body
 with_none ask (Err fault) none = tt
 
+-- a list
+list_none : (p : ℕ) (r : Result ListAsked QueryName) → AllNone (list_call p r)
+list_none p (Ok asked) = tt
+list_none p (Err name) = tt
+
 topics_none : (moment : ℕ) (request : HttpRequest) (p : ℕ) → AllNone (topics_call moment request p)
 topics_none moment request p =
-    either_none (is_method request (codes "POST")) _ _ (with_none _ (asked_as topic_body (object_of request.body)) (λ body set e. cc)) (λ set e. cc)
+    either_none (is_method request (codes "POST")) _ _ (with_none _ (asked_as topic_body (object_of request.body)) (λ body set e. cc)) (list_none p (list_asked (query_of request.target)))
 
 topic_none : (moment : ℕ) (request : HttpRequest) (p t : ℕ) → AllNone (topic_call moment request p t)
 topic_none moment request p t =
@@ -109,7 +116,9 @@ asked_at_none moment request (Err fault) = tt
 
 -- a bad turn asks for nothing
 bad_turn_none : (r : Result Action RequestFault) → AllNone (with_bad_turn r)
-bad_turn_none (Ok call) = tt
+bad_turn_none (Ok (Call call)) = tt
+bad_turn_none (Ok (Build p name mode body)) = tt
+bad_turn_none (Ok (AskList p asked bad_turn)) = tt
 bad_turn_none (Err NoRoute) = tt
 bad_turn_none (Err (Method row)) = tt
 bad_turn_none (Err Encoding) = tt

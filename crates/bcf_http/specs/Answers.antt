@@ -10,6 +10,10 @@ use Rattle.book_history.specs.declared.replies.ReplyBody.{ReplyBody}
 use Rattle.book_history.specs.declared.replies.ReplyBody.TheVariants as reply
 use Rattle.bcf_json.specs.JsonTexts.{identifier_text}
 use Rattle.bcf_viewpoints.specs.declared.part.ViewPart.{ViewPart}
+use Rattle.bcf_topics.specs.declared.topic.Topic.{Topic}
+use Rattle.odata_filter.specs.declared.listing.Listing.{Listing}
+use Rattle.odata_filter.specs.Listings.{IsListed}
+use Rattle.bcf_http.specs.ListRequests.{topics_at}
 use Rattle.bcf_bodies.specs.declared.body_fault.BodyFault.{BodyFault}
 use Rattle.bcf_bodies.specs.declared.body_fault.BodyFault.TheVariants.{Title, BadMember, BadComponent}
 use Rattle.bcf_bodies.specs.TextMembers.{listed}
@@ -17,16 +21,16 @@ use Rattle.bcf_bodies.specs.TopicTrees.{IsTopicTree}
 use Rattle.bcf_bodies.specs.CommentTrees.{IsCommentTree}
 use Rattle.bcf_bodies.specs.ViewTrees.{whole_tree, view_tree}
 use Rattle.bcf_http.specs.declared.asked.RequestFault.{RequestFault}
-use Rattle.bcf_http.specs.declared.asked.RequestFault.TheVariants.{NoRoute, Method, Encoding, Query, BadTurn, BadJson, Rules, Body}
+use Rattle.bcf_http.specs.declared.asked.RequestFault.TheVariants.{NoRoute, Method, Encoding, Query, Filter, Order, BadTurn, BadJson, Rules, Body}
 use Rattle.http_routes.specs.declared.paths.RoutePath.{RoutePath}
 use Rattle.http_routes.specs.declared.query.QueryName.{QueryName}
-use Rattle.http_routes.specs.declared.query.QueryName.TheVariants.{Grid, First, Count}
+use Rattle.http_routes.specs.declared.query.QueryName.TheVariants as query
 use Rattle.http_frame.specs.declared.types.FrameFault.{FrameFault}
 use Rattle.http_frame.specs.declared.types.FrameFault.TheVariants as frame
 use Rattle.bcf_http.specs.declared.reply_kind.ReplyKind.{ReplyKind}
 use Rattle.bcf_http.specs.declared.answers.Answer.{Answer}
 use Rattle.bcf_http.specs.declared.answers.Answer.TheVariants as answer
-use Rattle.error_json.specs.Errors.{error_tree, error_named, error_newest, error_version, error_store, error_full, error_place, error_turn}
+use Rattle.error_json.specs.Errors.{error_tree, error_named, error_newest, error_version, error_store, error_full, error_place, error_turn, error_at}
 use Rattle.error_json.specs.FaultTrees.{upload_fault_tree, rule_fault_tree}
 use Rattle.coord_json.specs.VersionTrees.{changed_tree, IsVersionTree}
 use Rattle.coord_json.specs.ClashTrees.{clashes_tree, pending_tree}
@@ -34,9 +38,13 @@ use Rattle.bcf_http.specs.Responses.{response_bytes}
 
 -- a parameter of a query, as it is spelled
 abbrev pub query_text : QueryName → List ℕ
-query_text Grid = codes "grid"
-query_text First = codes "first"
-query_text Count = codes "count"
+query_text query.Grid = codes "grid"
+query_text query.First = codes "first"
+query_text query.Count = codes "count"
+query_text query.Filter = codes "$filter"
+query_text query.OrderBy = codes "$orderby"
+query_text query.Skip = codes "$skip"
+query_text query.Top = codes "$top"
 
 -- what a book may be full of
 abbrev pub store_text : StoreWhat → List ℕ
@@ -55,6 +63,8 @@ request_fault_tree NoRoute = error_tree (codes "H7") (codes "NoRoute")
 request_fault_tree (Method row) = error_tree (codes "H8") (codes "Method")
 request_fault_tree Encoding = error_tree (codes "H12") (codes "Encoding")
 request_fault_tree (Query name) = error_named (codes "H11") (codes "Query") (query_text name)
+request_fault_tree (Filter at) = error_at (codes "H14") (codes "Filter") at
+request_fault_tree (Order at) = error_at (codes "H15") (codes "Order") at
 request_fault_tree BadTurn = error_tree (codes "H13") (codes "TurnField")
 request_fault_tree BadJson = error_tree (codes "H9") (codes "BadJson")
 request_fault_tree (Rules fault) = rule_fault_tree fault
@@ -134,9 +144,22 @@ IsReplyTree project part (reply.Work order) tree = tree ≡ null
 IsReplyTree project part (reply.Finished left) tree = tree ≡ null
 IsReplyTree project part (reply.Refused fault) tree = tree ≡ book_fault_tree fault
 
+-- the tree of topics of a project that a listing lists
+abbrev pub IsListTree : ℕ → Listing → List Topic → Data → Type 0
+IsListTree project listing topics tree =
+    (places : List ℕ) × IsListed listing topics places
+    × IsArrayOf (IsTopicTree project) (topics_at topics places) tree
+
+-- the tree of a reply of the book, whose topics are listed by a listing
+abbrev pub IsListedTree : ℕ → ViewPart → Listing → ReplyBody → Data → Type 0
+IsListedTree project part listing (reply.TopicList topics) tree = IsListTree project listing topics tree
+IsListedTree project part listing other tree = IsReplyTree project part other tree
+
 -- the tree of an answer, for a project and a part of a viewpoint
 abbrev pub IsAnswerTree : ℕ → ViewPart → Answer → Data → Type 0
 IsAnswerTree project part (answer.Book reply) tree = IsReplyTree project part reply.body tree
+IsAnswerTree project part (answer.Listed reply listing) tree =
+    IsListedTree project part listing reply.body tree
 IsAnswerTree project part (answer.Refused fault) tree = tree ≡ request_fault_tree fault
 IsAnswerTree project part (answer.Built fault) tree = tree ≡ upload_fault_tree fault
 IsAnswerTree project part (answer.Frame fault) tree = tree ≡ frame_fault_tree fault
@@ -188,6 +211,8 @@ fault_status NoRoute = 404
 fault_status (Method row) = 405
 fault_status Encoding = 415
 fault_status (Query name) = 400
+fault_status (Filter at) = 400
+fault_status (Order at) = 400
 fault_status BadTurn = 400
 fault_status BadJson = 400
 fault_status (Rules fault) = 422
@@ -205,6 +230,7 @@ frame_status frame.Version = 505
 -- the status of an answer
 abbrev pub status_of : Bool → Answer → ℕ
 status_of created (answer.Book reply) = reply_status created reply.body
+status_of created (answer.Listed reply listing) = reply_status created reply.body
 status_of created (answer.Refused fault) = fault_status fault
 status_of created (answer.Built fault) = 422
 status_of created (answer.Frame fault) = frame_status fault

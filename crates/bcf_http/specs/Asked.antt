@@ -1,5 +1,5 @@
 -- What a request asks for, of the request alone.
-use Rattle.std.specs.Prelude.{◌≡◌, ◌≢◌, ℕ, ◌+◌, ◌*◌, ◌^◌, List, length, sum_by, Bool, not, min, ◌-◌, if◌then◌else◌, Option, Some, None, Result, Ok, Err, option_and_then, codes, bytes_eq, ⊤}
+use Rattle.std.specs.Prelude.{◌≡◌, ◌≢◌, ℕ, ◌+◌, ◌*◌, ◌^◌, List, length, sum_by, Bool, true, false, not, min, ◌-◌, if◌then◌else◌, Option, Some, None, Result, Ok, Err, option_and_then, codes, bytes_eq, ⊤}
 use Rattle.std.specs.Str.{is_utf8}
 use Rattle.serde_json.specs.Data.{Data}
 use Rattle.serde_json.specs.Read.{read}
@@ -32,10 +32,12 @@ use Rattle.bcf_http.specs.declared.asked.RequestFault.TheVariants.{NoRoute, Meth
 use Rattle.bcf_http.specs.declared.asked.Refusal.{Refusal}
 use Rattle.bcf_http.specs.declared.asked.Refusal.TheVariants.{Fault, Memory}
 use Rattle.bcf_http.specs.declared.asked.Action.{Action}
-use Rattle.bcf_http.specs.declared.asked.Action.TheVariants.{Call, Build}
+use Rattle.bcf_http.specs.declared.asked.Action.TheVariants.{Call, Build, AskList}
 use Rattle.http_routes.specs.Paths.{has_method}
 use Rattle.http_routes.specs.Targets.{query_of}
 use Rattle.http_routes.specs.Queries.{grid_asked, page_asked}
+use Rattle.http_routes.specs.declared.list_query.ListAsked.{ListAsked}
+use Rattle.http_routes.specs.ListQueries.{list_asked}
 use Rattle.http_routes.specs.declared.resource.Resource.{Resource}
 use Rattle.http_routes.specs.declared.resource.TopicPlace.{TopicPlace}
 use Rattle.http_routes.specs.declared.resource.TopicPlace.TheVariants as place
@@ -85,13 +87,18 @@ view_weight body =
 abbrev pub is_method : HttpRequest → List ℕ → Bool
 is_method request name = bytes_eq request.method name
 
--- what is asked of the topics of a project: one more by POST, else all of them
+-- the list of topics that a query asks for
+abbrev pub list_call : ℕ → Result ListAsked QueryName → Result Action RequestFault
+list_call p (Ok asked) = Ok (AskList p asked false)
+list_call p (Err name) = Err (Query name)
+
+-- what is asked of the topics of a project: one more by POST, else a list of them
 abbrev pub topics_call : ℕ → HttpRequest → ℕ → Result Action RequestFault
 topics_call moment request p =
     if is_method request (codes "POST")
     then call_with (λ body. PostTopic p body (author_of moment request) (length request.body))
     (asked_as topic_body (object_of request.body))
-    else Ok (Call (ListTopics p))
+    else list_call p (list_asked (query_of request.target))
 
 -- what is asked of a topic: to put another body in its place, to delete it, else to read it
 abbrev pub topic_call : ℕ → HttpRequest → ℕ → ℕ → Result Action RequestFault
@@ -206,12 +213,14 @@ asked_at moment request (Err fault) = Err fault
 unfoldable pub asked_without_turn : ℕ → HttpRequest → Result Action RequestFault
 asked_without_turn moment request = asked_at moment request (judged request (place_of request.target))
 
--- the same where that turn is bad: this is the fault, unless the target, the method, the encoding or the query has one
+-- the same where that turn is bad: this is the fault, unless the target, the method, the encoding or the query has one;
+-- of a list it is told, since the texts of the query are judged before it
 abbrev pub with_bad_turn : Result Action RequestFault → Result Action RequestFault
 with_bad_turn (Err NoRoute) = Err NoRoute
 with_bad_turn (Err (Method row)) = Err (Method row)
 with_bad_turn (Err Encoding) = Err Encoding
 with_bad_turn (Err (Query name)) = Err (Query name)
+with_bad_turn (Ok (AskList p asked bad_turn)) = Ok (AskList p asked true)
 with_bad_turn _ = Err BadTurn
 
 -- the same, by the turn
@@ -249,3 +258,4 @@ BringsNone call = (set : SetValue) → call ≢ Finish set
 abbrev pub AsksNone : Action → Type 0
 AsksNone (Call call) = BringsNone call
 AsksNone (Build p name mode body) = Unit {0}
+AsksNone (AskList p asked bad_turn) = Unit {0}

@@ -12,12 +12,15 @@ use book_history::{BookFault, BookReply, ReplyBody};
 use http::StatusCode;
 use http_frame::FrameFault;
 use http_routes::RoutePath;
+use odata_filter::Listing;
 use std::alloc::{AllocError, Global};
 
 /// What is answered to a request, or to bytes that are none.
 #[derive(Drop)]
 pub enum Answer {
     Book(BookReply),
+    /// A reply of the book, whose topics are listed so.
+    Listed(BookReply, Listing),
     Refused(RequestFault),
     /// The file of an upload makes no model.
     Built(UploadFault),
@@ -86,6 +89,8 @@ fn fault_status(fault: &RequestFault) -> StatusCode
         RequestFault::Method { .. } => StatusCode::METHOD_NOT_ALLOWED,
         RequestFault::Encoding => StatusCode::UNSUPPORTED_MEDIA_TYPE,
         RequestFault::Query { .. } => StatusCode::BAD_REQUEST,
+        RequestFault::Filter { .. } => StatusCode::BAD_REQUEST,
+        RequestFault::Order { .. } => StatusCode::BAD_REQUEST,
         RequestFault::BadTurn => StatusCode::BAD_REQUEST,
         RequestFault::BadJson => StatusCode::BAD_REQUEST,
         RequestFault::Rules(_) => StatusCode::UNPROCESSABLE_ENTITY,
@@ -111,6 +116,7 @@ fn status_of(created: bool, answer: &Answer) -> StatusCode
 {
     match answer {
         Answer::Book(reply) => reply_status(created, &reply.body),
+        Answer::Listed(reply, _) => reply_status(created, &reply.body),
         Answer::Refused(fault) => fault_status(fault),
         Answer::Built(_) => StatusCode::UNPROCESSABLE_ENTITY,
         Answer::Frame(fault) => frame_status(*fault),
@@ -124,11 +130,14 @@ fn allow_of(answer: &Answer) -> Option<RoutePath>
 {
     match answer {
         Answer::Book(_) => None,
+        Answer::Listed(_, _) => None,
         Answer::Refused(fault) => match fault {
             RequestFault::NoRoute => None,
             RequestFault::Method { path } => Some(*path),
             RequestFault::Encoding => None,
             RequestFault::Query { .. } => None,
+            RequestFault::Filter { .. } => None,
+            RequestFault::Order { .. } => None,
             RequestFault::BadTurn => None,
             RequestFault::BadJson => None,
             RequestFault::Rules(_) => None,

@@ -1,5 +1,6 @@
 //! Lists as arrays.
-ghost use Rattle.std.specs.Prelude.{◌≡◌, ◌++◌, ◌∷◌, [], map, IfOk, OnOk};
+ghost use Rattle.std.specs.Prelude.{◌≡◌, ◌++◌, ◌∷◌, [], map, IfOk, OnOk, MatchOption};
+ghost use Rattle.std.specs.List.{slice_get};
 ghost use Rattle.serde_json.specs.Data.{array};
 ghost use Rattle.serde_json.specs.View.{view};
 ghost use Rattle.bcf_bodies.specs.TextMembers.{listed};
@@ -7,11 +8,13 @@ ghost use Rattle.bcf_bodies.specs.TopicTrees.{IsTopicTree};
 ghost use Rattle.bcf_bodies.specs.CommentTrees.{IsCommentTree};
 ghost use Rattle.bcf_bodies.specs.ViewTrees.{whole_tree};
 ghost use Rattle.bcf_http.specs.Answers.{project_tree, IsArrayOf};
+ghost use Rattle.bcf_http.specs.ListRequests.{topics_at};
 
 use bcf_bodies::{comment_out, topic_out, view_out};
 use bcf_json::identifier_out;
 use bcf_topics::{Comment, Topic};
 use bcf_viewpoints::{CheckedView, ViewPart};
+use bim_model::Shared;
 use serde_json::{Value, json};
 use std::alloc::{AllocError, Global};
 
@@ -58,12 +61,50 @@ fn push_topic(
 }
 
 /// Topics of a project.
-pub fn topics_out(alloc: Global, project: u32, topics: &[Topic]) -> Result<Value, AllocError>
+pub fn topics_out(
+    alloc: Global,
+    project: u32,
+    topics: &[Shared<Topic>],
+) -> Result<Value, AllocError>
     ensures { IfOk result (λ v. IsArrayOf (IsTopicTree project) topics.now (view v)) }
 {
     let mut trees = Vec::with_capacity(alloc, topics.len())?;
     for topic in topics {
-        push_topic(alloc, project, &mut trees, topic)?;
+        push_topic(alloc, project, &mut trees, topic.get())?;
+    }
+    Ok(Value::Array(trees))
+}
+
+// One more of the topics of a project, if there is one at this place.
+fn push_topic_at(
+    alloc: Global,
+    project: u32,
+    trees: &mut Vec<Value>,
+    topics: &[Shared<Topic>],
+    place: u32,
+) -> Result<(), AllocError>
+    ensures { OnOk result (MatchOption (slice_get topics.now place) (trees.new.items ≡ trees.old.items)
+        (λ topic. (v : _) × IsTopicTree project topic (view v)
+        × (trees.new.items ≡ trees.old.items ++ v ∷ []))) }
+{
+    match topics.get(place as usize) {
+        Some(topic) => push_topic(alloc, project, trees, topic.get()),
+        None => Ok(()),
+    }
+}
+
+/// The topics of a project at these places.
+pub fn topics_at_out(
+    alloc: Global,
+    project: u32,
+    topics: &[Shared<Topic>],
+    places: &[u32],
+) -> Result<Value, AllocError>
+    ensures { IfOk result (λ v. IsArrayOf (IsTopicTree project) (topics_at topics.now places.now) (view v)) }
+{
+    let mut trees = Vec::with_capacity(alloc, places.len())?;
+    for place in places {
+        push_topic_at(alloc, project, &mut trees, topics, *place)?;
     }
     Ok(Value::Array(trees))
 }

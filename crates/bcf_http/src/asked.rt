@@ -22,8 +22,8 @@ use book_history::{BookRequest, Wanted};
 use clash_rules::{RuleError, RuleFault, from_json};
 use http_frame::{HttpRequest, TurnField};
 use http_routes::{
-    PageError, QueryName, Resource, RoutePath, Routes, grid_asked, has_method, is_same, page_asked,
-    split_target,
+    ListAsked, PageError, QueryName, Resource, RoutePath, Routes, grid_asked, has_method, is_same,
+    page_asked, split_target,
 };
 use serde_json::Value;
 use std::alloc::Global;
@@ -39,6 +39,10 @@ pub enum RequestFault {
     Encoding,
     /// H11: a parameter of the query stands twice, or has a value that it may not have.
     Query { name: QueryName },
+    /// H14: the text of `$filter` goes on at this place as no filter does.
+    Filter { at: u64 },
+    /// H15: the text of `$orderby` goes on at this place as no order does.
+    Order { at: u64 },
     /// H13: the field `X-Book-Turn` stands twice, or isn't 1 to 15 digits.
     BadTurn,
     /// H9: the body is no JSON text, or no object.
@@ -67,6 +71,13 @@ pub enum Action {
         name: Text,
         mode: Mode,
         body: Bytes,
+    },
+    /// The topics of a project are to be listed as a query asks for; its texts aren't read yet.
+    AskList {
+        project: u128,
+        asked: ListAsked,
+        /// The turn that the request gives is bad, which is a fault only if the texts have none.
+        bad_turn: bool,
     },
 }
 
@@ -223,18 +234,33 @@ fn judged<'t>(
     Ok(resource)
 }
 
-// The refusal where the turn that a request gives is bad.
-fn bad_turn(asked: Result<Action, Refusal>) -> Refusal
+// What is asked for where the turn that a request gives is bad.
+fn bad_turn(asked: Result<Action, Refusal>) -> Result<Action, Refusal>
     ensures { (meant : Result Action RequestFault) → IsAskedAs asked meant
-        → IsAskedAs (Err result) (with_bad_turn meant) }
+        → IsAskedAs result (with_bad_turn meant) }
 {
     match asked {
-        Ok(action) => {
-            drop(action);
-            Refusal::Fault(RequestFault::BadTurn)
+        Ok(action) => told_of(action),
+        Err(Refusal::Fault(fault)) => Err(Refusal::Fault(fault_or_turn(fault))),
+        Err(Refusal::Memory) => Err(Refusal::Memory),
+    }
+}
+
+// The same of a request that asks for something: a list is told of the turn, all else is refused.
+fn told_of(action: Action) -> Result<Action, Refusal>
+    ensures { IsAskedAs result (with_bad_turn (Ok action)) }
+{
+    match action {
+        Action::AskList { project, asked, .. } => Ok(Action::AskList {
+            project,
+            asked,
+            bad_turn: true,
+        }),
+        Action::Call(call) => {
+            drop(call);
+            Err(Refusal::Fault(RequestFault::BadTurn))
         }
-        Err(Refusal::Fault(fault)) => Refusal::Fault(fault_or_turn(fault)),
-        Err(Refusal::Memory) => Refusal::Memory,
+        Action::Build { .. } => Err(Refusal::Fault(RequestFault::BadTurn)),
     }
 }
 
@@ -247,6 +273,8 @@ fn fault_or_turn(fault: RequestFault) -> RequestFault
         RequestFault::Method { path } => RequestFault::Method { path },
         RequestFault::Encoding => RequestFault::Encoding,
         RequestFault::Query { name } => RequestFault::Query { name },
+        RequestFault::Filter { .. } => RequestFault::BadTurn,
+        RequestFault::Order { .. } => RequestFault::BadTurn,
         RequestFault::BadTurn => RequestFault::BadTurn,
         RequestFault::BadJson => RequestFault::BadTurn,
         RequestFault::Rules(_) => RequestFault::BadTurn,
@@ -262,7 +290,7 @@ fn with_turn(seen: TurnField, asked: Result<Action, Refusal>) -> Result<Action, 
     match seen {
         TurnField::Absent => asked,
         TurnField::Given(_) => asked,
-        TurnField::Bad => Err(bad_turn(asked)),
+        TurnField::Bad => bad_turn(asked),
     }
 }
 

@@ -5,15 +5,17 @@ ghost use Rattle.book_history.specs.declared.requests.BookRequest.TheVariants.{P
 ghost use Rattle.bcf_bodies.specs.TopicBodies.{topic_body};
 ghost use Rattle.bcf_bodies.specs.CommentBodies.{comment_body};
 ghost use Rattle.bcf_bodies.specs.ViewBodies.{view_body};
-ghost use Rattle.bcf_http.specs.Asked.{object_of, author_of, asked_as, call_with, greatest, colored_weight, view_weight, topics_call, topic_call, comments_call, comment_call, views_call, view_call, call_of_topic, IsAskedAs};
+ghost use Rattle.http_routes.specs.Targets.{query_of};
+ghost use Rattle.http_routes.specs.ListQueries.{list_asked};
+ghost use Rattle.bcf_http.specs.Asked.{object_of, author_of, asked_as, call_with, greatest, colored_weight, view_weight, list_call, topics_call, topic_call, comments_call, comment_call, views_call, view_call, call_of_topic, IsAskedAs};
 
-use crate::asked::{Action, Refusal};
+use crate::asked::{Action, Refusal, RequestFault};
 use crate::bodies::{comment_asked, topic_asked, view_asked};
 use bcf_viewpoints::{Coloring, ViewBody};
 use bim_model::{Author, Moment};
 use book_history::BookRequest;
 use http_frame::HttpRequest;
-use http_routes::{TopicPlace, is_same};
+use http_routes::{PageError, TopicPlace, is_same, list_asked, split_target};
 use std::alloc::Global;
 
 // The call that makes a topic of the body.
@@ -146,7 +148,23 @@ pub fn topics_call(
     if is_same(request.method.as_slice(), "POST") {
         return post_topic(alloc, request, moment, project);
     }
-    Ok(Action::Call(BookRequest::ListTopics { project }))
+    list_call(alloc, &request, project)
+}
+
+// What is asked of the list of topics, by the query of its target.
+fn list_call(alloc: Global, request: &HttpRequest, project: u128) -> Result<Action, Refusal>
+    ensures { IsAskedAs result (list_call project (list_asked (query_of request.now.target))) }
+{
+    let (_, query) = split_target(request.target.as_slice());
+    match list_asked(alloc, query) {
+        Ok(asked) => Ok(Action::AskList {
+            project,
+            asked,
+            bad_turn: false,
+        }),
+        Err(PageError::Bad(name)) => Err(Refusal::Fault(RequestFault::Query { name })),
+        Err(PageError::Memory) => Err(Refusal::Memory),
+    }
 }
 
 // What is asked of a topic.

@@ -1,21 +1,26 @@
 //! Answers as JSON values.
 ghost use Rattle.std.specs.Prelude.{◌≡◌, IfOk};
 ghost use Rattle.serde_json.specs.View.{view};
-ghost use Rattle.bcf_http.specs.Answers.{query_text, store_text, body_fault_tree, request_fault_tree, book_fault_tree, frame_fault_tree, IsReplyTree, IsAnswerTree};
+ghost use Rattle.bcf_http.specs.Answers.{query_text, store_text, body_fault_tree, request_fault_tree, book_fault_tree, frame_fault_tree, IsReplyTree, IsListTree, IsListedTree, IsAnswerTree};
 
 use crate::answers::Answer;
-use crate::arrays::{comments_out, project_out, projects_out, topics_out, views_out};
+use crate::arrays::{
+    comments_out, project_out, projects_out, topics_at_out, topics_out, views_out,
+};
 use crate::asked::RequestFault;
 use bcf_bodies::{BodyFault, comment_out, topic_out, view_out};
+use bcf_topics::Topic;
 use bcf_viewpoints::ViewPart;
+use bim_model::Shared;
 use book_history::{BookFault, ReplyBody, StoreWhat};
 use coord_json::{changed_out, clashes_out, pending_out, version_out};
 use error_json::{
-    error_full, error_named, error_newest, error_out, error_place, error_store, error_turn,
-    error_version, rule_fault_out, upload_fault_out,
+    error_at, error_full, error_named, error_newest, error_out, error_place, error_store,
+    error_turn, error_version, rule_fault_out, upload_fault_out,
 };
 use http_frame::FrameFault;
 use http_routes::QueryName;
+use odata_filter::Listing;
 use serde_json::{Map, Value};
 use std::alloc::{AllocError, Global};
 
@@ -26,6 +31,10 @@ fn query_text(name: QueryName) -> &'static str
         QueryName::Grid => "grid",
         QueryName::First => "first",
         QueryName::Count => "count",
+        QueryName::Filter => "$filter",
+        QueryName::OrderBy => "$orderby",
+        QueryName::Skip => "$skip",
+        QueryName::Top => "$top",
     }
 }
 
@@ -56,6 +65,8 @@ fn fault_out(alloc: Global, fault: &RequestFault) -> Result<Value, AllocError>
         RequestFault::Method { .. } => error_out(alloc, "H8", "Method"),
         RequestFault::Encoding => error_out(alloc, "H12", "Encoding"),
         RequestFault::Query { name } => error_named(alloc, "H11", "Query", query_text(*name)),
+        RequestFault::Filter { at } => error_at(alloc, "H14", "Filter", *at),
+        RequestFault::Order { at } => error_at(alloc, "H15", "Order", *at),
         RequestFault::BadTurn => error_out(alloc, "H13", "TurnField"),
         RequestFault::BadJson => error_out(alloc, "H9", "BadJson"),
         RequestFault::Rules(fault) => rule_fault_out(alloc, *fault),
@@ -158,6 +169,35 @@ fn reply_out(
     }
 }
 
+// The topics that a listing lists, none of which is copied.
+fn list_out(
+    alloc: Global,
+    project: u32,
+    listing: &Listing,
+    topics: &[Shared<Topic>],
+) -> Result<Value, AllocError>
+    ensures { IfOk result (λ v. IsListTree project listing.now topics.now (view v)) }
+{
+    let places = listing.places(alloc, topics)?;
+    topics_at_out(alloc, project, topics, &places)
+}
+
+// A reply of the book, whose topics are listed so.
+fn listed_out(
+    alloc: Global,
+    project: u32,
+    part: ViewPart,
+    listing: &Listing,
+    reply: &ReplyBody,
+) -> Result<Value, AllocError>
+    ensures { IfOk result (λ v. IsListedTree project part listing.now reply.now (view v)) }
+{
+    match reply {
+        ReplyBody::TopicList(topics) => list_out(alloc, project, listing, topics.as_slice()),
+        _ => reply_out(alloc, project, part, reply),
+    }
+}
+
 /// The tree of an answer, for a project and a part of a viewpoint.
 pub fn answer_out(
     alloc: Global,
@@ -169,6 +209,7 @@ pub fn answer_out(
 {
     match answer {
         Answer::Book(reply) => reply_out(alloc, project, part, &reply.body),
+        Answer::Listed(reply, listing) => listed_out(alloc, project, part, listing, &reply.body),
         Answer::Refused(fault) => fault_out(alloc, fault),
         Answer::Built(fault) => upload_fault_out(alloc, *fault),
         Answer::Frame(fault) => frame_out(alloc, *fault),

@@ -1,5 +1,5 @@
 -- A topic's place among topics that rise.
-use Rattle.std.proofs.Common.{◌≡◌, ℕ, zero, suc, ◌+◌, ◌<◌, ◌==◌, inl, inr, Bool, true, false, cond, not, List, [], ◌∷◌, ◌++◌, length, get_or, set, is_some, Some, None, refl, ap, arith, nat_lt, Ok, Err}
+use Rattle.std.proofs.Common.{◌≡◌, ℕ, zero, suc, ◌+◌, ◌<◌, ◌==◌, inl, inr, Bool, true, false, cond, not, List, [], ◌∷◌, ◌++◌, length, get_or, set, is_some, Some, None, refl, ap, arith, nat_lt, Result, Ok, Err, OnErr}
 use Rattle.std.proofs.lemmas.Bool.{cases_Bool, cases_lt, eqb-true, eq-eqb, ne_eqb, le-ltb}
 use Rattle.std.proofs.lemmas.Cmp.{nat_cmp_total}
 use Rattle.std.proofs.lemmas.List.Kept.{AllPairs-filter}
@@ -165,3 +165,8 @@ none_there serial ts at r h = none_of serial ts (λ k d lt e.
       | inl b ↦ (let l = p.0 k d (omega arith) b in cc)
       | inr a ↦ (let g = p.1 k d a lt in cc)
     ])
+
+-- what holds anyway holds at an error
+pub at_error : {T E P : Type 0} (r : Result T E) → P → OnErr r P
+at_error (Ok value) p = tt
+at_error (Err error) p = p

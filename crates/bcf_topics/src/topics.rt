@@ -9,7 +9,7 @@ use crate::comment_list;
 use crate::topic::Topic;
 use crate::topic_body::TopicBody;
 use crate::topic_places::{self, is_topic};
-use bim_model::Author;
+use bim_model::{Author, Shared};
 use std::alloc::{AllocError, Global};
 use std::collections::BTreeMap;
 use std::marker::Model;
@@ -39,7 +39,7 @@ impl From<AllocError> for TopicError {
 /// number, and the comments, each under its topic's serial number and its own, in the order of these.
 #[derive(Drop)]
 pub struct Topics {
-    topics: Vec<Topic>,
+    topics: Vec<Shared<Topic>>,
     comments: BTreeMap<(u64, u64), Comment>,
 }
 
@@ -67,7 +67,7 @@ impl Topics {
     }
 
     /// The topics by rising serial number, lent.
-    pub fn topics(&self) -> &[Topic]
+    pub fn topics(&self) -> &[Shared<Topic>]
         ensures same { result.now ≡ self.now.topics }
         ensures rises { Rises result.now }
     {
@@ -123,26 +123,28 @@ impl Topics {
             created: author,
             modified: None,
         };
+        let alloc = *self.topics.allocator();
+        let topic = Shared::new(alloc, topic)?;
         topic_places::push(&mut self.topics, topic)
     }
 
-    /// Puts another body in the place of a topic's whole body. B1 where there is no such topic, and then all
-    /// stays as it was.
+    /// Puts another body in the place of a topic's whole body. B1 where there is no such topic. An `Err` leaves all as it
+    /// was.
     pub fn put_topic(
         &mut self,
         serial: u64,
         body: TopicBody,
         author: Author,
     ) -> Result<(), TopicError>
-        ensures answer { result ≡ answer_of (topic_refusal serial self.old) }
+        ensures answer { IsAnswer result (topic_refusal serial self.old) }
         ensures after { self.new
             ≡ (if is_ok result then with_topics (topics_put serial body author self.old.topics) self.old
             else self.old) }
     {
-        if topic_places::replace(&mut self.topics, serial, body, author) {
-            Ok(())
-        } else {
-            Err(TopicError::NoTopic)
+        match topic_places::replace(&mut self.topics, serial, body, author) {
+            Ok(true) => Ok(()),
+            Ok(false) => Err(TopicError::NoTopic),
+            Err(_) => Err(TopicError::Memory),
         }
     }
 

@@ -13,7 +13,7 @@ use Rattle.book_history.specs.Runs.{Step}
 use Rattle.book_history.proofs.Histories.{AreAbove, AreOf, added_of, at_turn-grown, of_turn-grown, at_turn-new, of_turn-new}
 use Rattle.bcf_http.specs.declared.answers.Answer.TheVariants as answer
 use Rattle.bim_session.specs.Works.{Standing, Printed, IsTaken, Gives, WorksOne, WorksOn, Works, IsEnough, left_behind, last_turn}
-use Rattle.bim_session.specs.Session.{Asking, asking, TakesTurn, IsResponseTo, kept_call, IsKept, IsShelved, IsBooked, TakesIdly, up_to_printed, printed_after, Answers, AnswersEvent, WorksBehind, AnswersFirst, Answered, counted, requests, closes, is_closed, past, behind}
+use Rattle.bim_session.specs.Session.{Asking, asking, TakesTurn, IsResponseTo, kept_call, IsKept, IsShelved, IsBooked, TakesIdly, up_to_printed, printed_after, Answers, AnswersEvent, WorksBehind, AnswersFirst, Answered, answer_by, counted, requests, closes, is_closed, past, behind}
 use Rattle.bim_session.proofs.Reading.{or_false}
 
 -- ---- later entries
@@ -119,7 +119,9 @@ unfolding turn_grown
 booked_grown a more top bytes steps printed b le up above = record {
   unkept = λ kept. b.unkept (kept_before a more top le above kept);
   taken = turn_grown a more top steps b.taken up above;
-  response = subst (λ (es : List Entry). IsResponseTo a (answer.Book (reply_of a.standing.settings es b.taken.step.stamp b.taken.step.call)) (Some b.taken.step.stamp.turn) bytes)
+  listing = b.listing;
+  lists = b.lists;
+  response = subst (λ (es : List Entry). IsResponseTo a (answer_by b.listing (reply_of a.standing.settings es b.taken.step.stamp b.taken.step.call)) (Some b.taken.step.stamp.turn) bytes)
       (sym (at_turn-grown b.taken.step.stamp.turn a.standing.top a.standing.history more b.taken.taken.within above)) b.response;
   above = b.above;
   printed_is = b.printed_is

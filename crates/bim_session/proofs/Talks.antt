@@ -16,14 +16,15 @@ use Rattle.bcf_http.specs.declared.answers.Answer.{Answer}
 use Rattle.bcf_http.specs.declared.answers.Answer.TheVariants as answer
 use Rattle.bcf_http.specs.ReplyKinds.{kind_of}
 use Rattle.bcf_http.specs.Answers.{IsResponse}
+use Rattle.odata_filter.specs.declared.listing.Listing.{Listing}
 use Rattle.bim_session.specs.declared.end.SessionEnd.{SessionEnd}
 use Rattle.bim_session.specs.declared.want.Waiting.{Waiting}
 use Rattle.bim_session.specs.declared.want.Want.{Want}
 use Rattle.bim_session.specs.declared.want.Want.TheVariants.{More, Write, Call, Leave}
 use Rattle.bim_session.specs.declared.notes.Notes.{Notes}
 use Rattle.bim_session.specs.ShelfNotes.{project_read, IsKeptReply}
-use Rattle.bim_session.specs.Session.{closes_after, continue_bytes, IsFaultResponse}
-use Rattle.bim_session.specs.Talking.{TalkState, IsOwnEnd, IsOwnLeaving, IsOwnWant, GrowsBy, Feeds, is_end, Wants, StopsNext, TakesRequest, Writes, WantsFor, AtRest, AsksFor, waiting_for, with_answer, with_call, with_fault, with_framer, asks_change, IsUnasked, AnswersAlone}
+use Rattle.bim_session.specs.Session.{closes_after, continue_bytes, Means, Lists, IsFaultResponse}
+use Rattle.bim_session.specs.Talking.{TalkState, IsOwnEnd, IsOwnLeaving, IsOwnWant, GrowsBy, Feeds, is_end, Wants, StopsNext, TakesRequest, Writes, WantsFor, AtRest, AsksFor, waiting_for, waiting_alone, waiting_on, with_answer, with_call, with_fault, with_framer, asks_change, IsUnasked, AnswersAlone}
 
 pub none_of : (o : Option SessionEnd) → ((e : SessionEnd) → o ≡ Some e → ⊥) → o ≡ None
 none_of None not_some = refl
@@ -139,7 +140,7 @@ requested : (old new : TalkState) (f : Framer) (m : ℕ) (r : HttpRequest) (want
     → WantsFor m r (with_framer f old) want new → Wants a b old want new
 requested old new f m r More a b here steps gives wants = absurd wants
 requested old new f m r (Call call) a b here steps gives wants = λ rest told stands.
-    let same : new.framer ≡ f = ap (λ (s : TalkState). s.framer) wants.2 in (
+    let same : new.framer ≡ f = ap (λ (s : TalkState). s.framer) wants.2.2 in (
       m ∷ [],
       gives,
       (
@@ -148,8 +149,12 @@ requested old new f m r (Call call) a b here steps gives wants = λ rest told st
           took m r f new.framer rest told (steps rest told stands) same,
           wants.0,
           wants.1,
-          wants.2
-              ∙ ap (λ (g : Framer). with_call (waiting_for r (old.served + 1) (asks_change call.request) (project_read call.request)) (with_framer g old)) (sym same),
+          (
+            wants.2.0,
+            wants.2.1,
+            wants.2.2
+              ∙ ap (λ (g : Framer). with_call (waiting_for r (old.served + 1) (asks_change call.request) (project_read call.request) wants.2.0) (with_framer g old)) (sym same),
+          ),
         ),
       ),
     )
@@ -185,7 +190,7 @@ alone_of m r refusal waiting bytes (inr is) response = inr (subst (λ (a : Answe
 refuses : (m : ℕ) (r : HttpRequest) (refusal : Answer) (old new : TalkState) (want : Want) → IsUnasked m r refusal
     → Writes (IsResponse refusal (kind_of r) None (closes_after r (old.served + 1))) want → new ≡ with_answer (closes_after r (old.served + 1)) old → WantsFor m r old want new
 refuses m r refusal old new More unasked writes is = absurd writes
-refuses m r refusal old new (Write bytes) unasked writes is = (inl (alone_of m r refusal (waiting_for r (old.served + 1) false None) bytes unasked writes), is)
+refuses m r refusal old new (Write bytes) unasked writes is = (inl (alone_of m r refusal (waiting_alone r (old.served + 1)) bytes unasked writes), is)
 refuses m r refusal old new (Call call) unasked writes is = absurd writes
 refuses m r refusal old new (Leave e) unasked writes is = absurd writes
 
@@ -205,6 +210,39 @@ wants_refusal m r refusal old new kind close result kind_is close_is unasked wri
     refuses_on m r refusal old new result unasked
     (subst (λ (k : ReplyKind). IfOk result (Writes (IsResponse refusal k None (closes_after r (old.served + 1))))) kind_is closing)
     (subst (λ (b : Bool). OnOk result (new ≡ with_answer b old)) close_is is)
+
+-- ---- a request that means a call
+
+-- what is needed of it, before it is known what the call asks for
+abbrev waiting_of : ReplyKind → Bool → Option Listing → Waiting
+waiting_of kind close listing = record { kind = kind; close = close; changes = false; reads = None; listing = listing }
+
+asks_wants : (m : ℕ) (r : HttpRequest) (waiting : Waiting) (call : BookCall) (listing : Option Listing) (old new : TalkState) (want : Want)
+    → waiting ≡ waiting_for r (old.served + 1) false None listing → Means m r call → Lists m r listing → AsksFor waiting call old want new → WantsFor m r old want new
+asks_wants m r waiting call listing old new More is means lists asks = absurd asks
+asks_wants m r waiting call listing old new (Write bytes) is means lists asks = (
+  inr (record {
+    call = call;
+    kept = asks.0.0;
+    means = means;
+    is_kept = asks.0.1;
+    response = subst (λ (w : Waiting). IsResponse (answer.Book asks.0.0) w.kind (Some old.notes.turn) w.close bytes) is asks.0.2;
+  }),
+  asks.1 ∙ ap (λ (w : Waiting). with_answer w.close old) is,
+)
+asks_wants m r waiting call listing old new (Call other) is means lists asks =
+    subst (λ (c : BookCall). WantsFor m r old (Call c) new) (sym asks.0)
+    (means, asks.1, (listing, lists, asks.2 ∙ ap (λ (w : Waiting). with_call (waiting_on call w) old) is))
+asks_wants m r waiting call listing old new (Leave e) is means lists asks = absurd asks
+
+-- what is wanted for the call
+pub wants_asked : (m : ℕ) (r : HttpRequest) (call : BookCall) (listing : Option Listing) (old new : TalkState) (kind : ReplyKind) (close : Bool) (result : Result Want AllocError)
+    → kind ≡ kind_of r → close ≡ closes_after r (old.served + 1) → Means m r call → Lists m r listing
+    → IfOk result (λ want. AsksFor (waiting_of kind close listing) call old want new) → IfOk result (λ want. WantsFor m r old want new)
+wants_asked m r call listing old new kind close (Ok want) kind_is close_is means lists asks =
+    asks_wants m r (waiting_of kind close listing) call listing old new want
+    (ap (λ k. waiting_of k close listing) kind_is ∙ ap (λ b. waiting_of (kind_of r) b listing) close_is) means lists asks
+wants_asked m r call listing old new kind close (Err e) kind_is close_is means lists asks = tt
 
 -- ---- a request that asks for what is kept
 

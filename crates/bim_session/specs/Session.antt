@@ -11,7 +11,7 @@ use Rattle.http_frame.specs.Events.{Begins, Asks, Event, IsRest, IsTold, Spells}
 use Rattle.http_frame.specs.Events as frame
 use Rattle.book_history.specs.declared.changes.Entry.{Entry}
 use Rattle.book_history.specs.declared.requests.BookRequest.{BookRequest}
-use Rattle.book_history.specs.declared.requests.BookRequest.TheVariants.{Upload, ReadClashes}
+use Rattle.book_history.specs.declared.requests.BookRequest.TheVariants.{Upload, ReadClashes, ListTopics}
 use Rattle.book_history.specs.declared.requests.BookCall.{BookCall}
 use Rattle.book_history.specs.declared.requests.Wanted.TheVariants.{Number}
 use Rattle.book_history.specs.declared.replies.BookReply.{BookReply}
@@ -23,11 +23,13 @@ use Rattle.bim_model.specs.Snapshots.{Version}
 use Rattle.clash_publish.specs.declared.horizon.TheConstants.{LIVE_VERSIONS}
 use Rattle.bcf_http.specs.declared.asked.RequestFault.{RequestFault}
 use Rattle.bcf_http.specs.declared.asked.Action.{Action}
-use Rattle.bcf_http.specs.declared.asked.Action.TheVariants.{Call, Build}
+use Rattle.bcf_http.specs.declared.asked.Action.TheVariants.{Call, Build, AskList}
 use Rattle.bcf_http.specs.declared.answers.Answer.{Answer}
 use Rattle.bcf_http.specs.declared.answers.Answer.TheVariants as answer
 use Rattle.bcf_http.specs.ReplyKinds.{kind_of, no_kind}
 use Rattle.bcf_http.specs.Asked.{asked_by}
+use Rattle.bcf_http.specs.ListRequests.{AsksListing, RefusesListing}
+use Rattle.odata_filter.specs.declared.listing.Listing.{Listing}
 use Rattle.bcf_http.specs.Answers.{IsResponse}
 use Rattle.bim_session.specs.declared.talk.TheConstants.{MOST_REQUESTS}
 use Rattle.bim_session.specs.ShelfNotes.{named_project, project_read, set_told, IsUpTo}
@@ -89,12 +91,14 @@ pub record Asking : Type 0 where
 abbrev pub asking : Standing → ℕ → HttpRequest → Asking
 asking standing moment request = record { standing = standing; moment = moment; request = request }
 
--- the request to the book that what is asked for means: itself, or the upload of a model that the profile
--- accepts
+-- the request to the book that what is asked for means: itself, the upload of a model that the profile accepts, or the
+-- one for all topics of a project, if the listing and the turn that is given are good
 abbrev pub MeansRequest : Result Action RequestFault → BookRequest → Type 0
 MeansRequest (Ok (Call asked)) request = asked ≡ request
 MeansRequest (Ok (Build project name mode body)) request =
     (model : List Element) × Profile body mode (Ok model) × (Upload project name model ≡ request)
+MeansRequest (Ok (AskList project asked bad_turn)) request =
+    (bad_turn ≡ false) × ((listing : Listing) × AsksListing asked listing) × (ListTopics project ≡ request)
 MeansRequest (Err fault) request = ⊥
 
 -- the turn that a request gives, if it gives one
@@ -107,11 +111,31 @@ abbrev pub Means : ℕ → HttpRequest → BookCall → Type 0
 Means moment request call =
     MeansRequest (asked_by moment request) call.request × (call.seen ≡ turn_given request.seen)
 
--- how what is asked for is refused: by the request's fault, or by the one that the profile finds in the body
+-- how the topics of the reply to what is asked for are listed, if it is a list of topics
+abbrev pub ListsBy : Result Action RequestFault → Option Listing → Type 0
+ListsBy (Ok (Call asked)) listing = listing ≡ None
+ListsBy (Ok (Build project name mode body)) listing = listing ≡ None
+ListsBy (Ok (AskList project asked bad_turn)) None = ⊥
+ListsBy (Ok (AskList project asked bad_turn)) (Some listing) = AsksListing asked listing
+ListsBy (Err fault) listing = ⊥
+
+-- the same of a request at a moment
+abbrev pub Lists : ℕ → HttpRequest → Option Listing → Type 0
+Lists moment request listing = ListsBy (asked_by moment request) listing
+
+-- the answer that a reply of the book makes, whose topics may be listed
+abbrev pub answer_by : Option Listing → BookReply → Answer
+answer_by None reply = answer.Book reply
+answer_by (Some listing) reply = answer.Listed reply listing
+
+-- how what is asked for is refused: by the request's fault, by the one that the profile finds in the body, or by that of
+-- the texts that a list is asked for by
 abbrev pub RefusesCall : Result Action RequestFault → Answer → Type 0
 RefusesCall (Ok (Call asked)) refusal = ⊥
 RefusesCall (Ok (Build project name mode body)) refusal =
     (fault : UploadFault) × Profile body mode (Err fault) × (refusal ≡ answer.Built fault)
+RefusesCall (Ok (AskList project asked bad_turn)) refusal =
+    (fault : RequestFault) × RefusesListing asked bad_turn fault × (refusal ≡ answer.Refused fault)
 RefusesCall (Err fault) refusal = refusal ≡ answer.Refused fault
 
 -- the request alone refuses itself at a moment, with this answer
@@ -196,7 +220,9 @@ reply_to s step = reply_of s.settings (at_turn step.stamp.turn s.history) step.s
 pub record IsBooked (a : Asking) (bytes : List ℕ) (steps : List Step) (printed : Printed) : Type 0 where
   pub unkept : ¬ (IsKept a)
   pub taken : TakesTurn a steps
-  pub response : IsResponseTo a (answer.Book (reply_to a.standing taken.step))
+  pub listing : Option Listing
+  pub lists : Lists a.moment a.request listing
+  pub response : IsResponseTo a (answer_by listing (reply_to a.standing taken.step))
       (Some taken.step.stamp.turn) bytes
   pub above : a.standing.printed.turn < taken.step.stamp.turn
   pub printed_is : printed ≡ printed_after taken.step (reply_to a.standing taken.step) a.standing.printed

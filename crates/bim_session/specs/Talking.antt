@@ -24,6 +24,7 @@ use Rattle.bcf_http.specs.declared.answers.Answer.{Answer}
 use Rattle.bcf_http.specs.declared.answers.Answer.TheVariants as answer
 use Rattle.bcf_http.specs.ReplyKinds.{kind_of}
 use Rattle.bcf_http.specs.Asked.{BringsNone}
+use Rattle.bcf_http.specs.declared.reply_kind.ReplyKind.{ReplyKind}
 use Rattle.bcf_http.specs.Answers.{IsResponse}
 use Rattle.bim_session.specs.declared.notes.Notes.{Notes}
 use Rattle.bim_session.specs.declared.end.SessionEnd.{SessionEnd}
@@ -32,7 +33,8 @@ use Rattle.bim_session.specs.declared.want.Waiting.{Waiting}
 use Rattle.bim_session.specs.declared.want.Want.{Want}
 use Rattle.bim_session.specs.declared.want.Want.TheVariants.{More, Write, Call, Leave}
 use Rattle.bim_session.specs.ShelfNotes.{project_read, AsksKept, IsKeptReply, Noted}
-use Rattle.bim_session.specs.Session.{most_requests, closes_after, continue_bytes, IsFaultResponse, Means, IsRefusedBy}
+use Rattle.bim_session.specs.Session.{most_requests, closes_after, continue_bytes, IsFaultResponse, Means, Lists, answer_by, IsRefusedBy}
+use Rattle.odata_filter.specs.declared.listing.Listing.{Listing}
 
 -- what contracts see of a talk: its framer, whether the end was fed, how many requests were answered, what
 -- the response to the call that waits needs of its request, what is kept of the book's replies, and how the talk
@@ -109,15 +111,20 @@ asks_change (request.DeleteView project topic view) = true
 asks_change (request.Finish set) = true
 asks_change _ = false
 
--- what the response to the request of this number needs of it, whose call asks for a change or not, and for the
--- clashes of the project of this number or of none
-abbrev pub waiting_for : HttpRequest → ℕ → Bool → Option ℕ → Waiting
-waiting_for request number changes reads = record {
+-- what the response to the request of this number needs of it, whose call asks for a change or not, for the clashes of
+-- the project of this number or of none, and for a list of topics or for none
+abbrev pub waiting_for : HttpRequest → ℕ → Bool → Option ℕ → Option Listing → Waiting
+waiting_for request number changes reads listing = record {
   kind = kind_of request;
   close = closes_after request number;
   changes = changes;
   reads = reads;
+  listing = listing;
 }
+
+-- what it needs of a request that takes no turn
+abbrev pub waiting_alone : HttpRequest → ℕ → Waiting
+waiting_alone request number = waiting_for request number false None None
 
 -- how a session ends after the answer to the request of this number, if it does
 abbrev pub leaving_after : ℕ → Bool → Option SessionEnd
@@ -199,6 +206,7 @@ waiting_on call waiting = record {
   close = waiting.close;
   changes = asks_change call.request;
   reads = project_read call.request;
+  listing = waiting.listing;
 }
 
 -- what a talk wants for a call, of whose response this is needed: the answer, where the call asks for clashes that are
@@ -218,10 +226,11 @@ abbrev pub WantsFor : ℕ → HttpRequest → TalkState → Want → TalkState �
 WantsFor moment request old More new = ⊥
 WantsFor moment request old (Call call) new =
     Means moment request call × ¬ (AsksKept old.notes call)
+    × ((listing : Option Listing) × Lists moment request listing
     × (new ≡ with_call (waiting_for request (old.served + 1) (asks_change call.request)
-    (project_read call.request)) old)
+    (project_read call.request) listing) old))
 WantsFor moment request old (Write bytes) new =
-    AnswersAtOnce moment request old.notes (waiting_for request (old.served + 1) false None) bytes
+    AnswersAtOnce moment request old.notes (waiting_alone request (old.served + 1)) bytes
     × (new ≡ with_answer (closes_after request (old.served + 1)) old)
 WantsFor moment request old (Leave e) new = ⊥
 
@@ -263,8 +272,7 @@ Continues rest told moments old bytes new =
 abbrev pub AnswersOne : List ℕ → Bool → List ℕ → TalkState → List ℕ → TalkState → Type 0
 AnswersOne rest told moments old bytes new =
     (one : TakesRequest rest told moments new.framer)
-    × AnswersAtOnce one.moment one.request old.notes
-    (waiting_for one.request (old.served + 1) false None) bytes
+    × AnswersAtOnce one.moment one.request old.notes (waiting_alone one.request (old.served + 1)) bytes
     × (new ≡ with_answer (closes_after one.request (old.served + 1)) (with_framer new.framer old))
 
 -- the fault is answered in which the bytes end, and ends the talk
@@ -287,8 +295,9 @@ Talks rest told moments old (Call call) new =
     (old.leaving ≡ None)
     × ((one : TakesRequest rest told moments new.framer) × Means one.moment one.request call
     × ¬ (AsksKept old.notes call)
+    × ((listing : Option Listing) × Lists one.moment one.request listing
     × (new ≡ with_call (waiting_for one.request (old.served + 1) (asks_change call.request)
-    (project_read call.request)) (with_framer new.framer old)))
+    (project_read call.request) listing) (with_framer new.framer old))))
 Talks rest told moments old (Leave e) new =
     (moments ≡ [])
     × ((old.leaving ≡ Some e)
@@ -347,13 +356,14 @@ BookReceipt = Receipt Book BookCall BookReply Entry Settings
 -- an answer of the book is noted, which is printed with this turn
 abbrev pub IsNoted : ℕ → Option ℕ → Answer → Notes → Notes → Type 0
 IsNoted turn reads (answer.Book told) old new = Noted turn reads told old new
+IsNoted turn reads (answer.Listed told listing) old new = Noted turn reads told old new
 IsNoted turn reads other old new = new ≡ old
 
 -- The response to a call that the book answered with this receipt, which is noted; or for which memory ran out, and
 -- then the notes stay.
 abbrev pub AnswersCall : Result BookReceipt CallFault → Waiting → Notes → List ℕ → Notes → Type 0
 AnswersCall (Ok receipt) waiting notes bytes later =
-    (IsResponse (answer.Book receipt.reply) waiting.kind (Some receipt.turn) waiting.close bytes
+    (IsResponse (answer_by waiting.listing receipt.reply) waiting.kind (Some receipt.turn) waiting.close bytes
     × Noted receipt.turn waiting.reads receipt.reply notes later)
     ⊎ (IsTrue (changes_nothing waiting.changes receipt.reply.body)
     × IsResponse answer.Memory waiting.kind None waiting.close bytes × (later ≡ notes))
@@ -378,12 +388,12 @@ Replies receipt waiting old (Write bytes) new =
 Replies receipt waiting old (Leave e) new = LeavesCall receipt old e new
 
 -- what a talk wants if memory ran out for its call
-abbrev pub LacksFor : Waiting → TalkState → Want → TalkState → Type 0
-LacksFor waiting old More new = ⊥
-LacksFor waiting old (Call call) new = ⊥
-LacksFor waiting old (Write bytes) new =
-    IsResponse answer.Memory waiting.kind None waiting.close bytes × (new ≡ with_answer waiting.close old)
-LacksFor waiting old (Leave e) new = (e ≡ end.Memory old.served) × (new ≡ with_memory old)
+abbrev pub LacksFor : ReplyKind → Bool → TalkState → Want → TalkState → Type 0
+LacksFor kind close old More new = ⊥
+LacksFor kind close old (Call call) new = ⊥
+LacksFor kind close old (Write bytes) new =
+    IsResponse answer.Memory kind None close bytes × (new ≡ with_answer close old)
+LacksFor kind close old (Leave e) new = (e ≡ end.Memory old.served) × (new ≡ with_memory old)
 
 -- ---- whose ends a talk gives
 

@@ -1,13 +1,14 @@
 //! One connection as a machine without input or output, which asks a clock.
-ghost use Rattle.std.specs.Prelude.{◌≡◌, ◌↔◌, ◌+◌, ◌<◌, ◌≤◌, [], None, Some, Ok, false, IsTrue, IsSome, IsOk, IfOk, IfSome, OnOk, OnErr};
+ghost use Rattle.std.specs.Prelude.{◌≡◌, ◌↔◌, ◌+◌, ◌<◌, ◌≤◌, ℕ, Option, [], None, Some, Ok, false, IsTrue, IsSome, IsOk, IfOk, IfSome, OnOk, OnErr};
 ghost use Rattle.bim_model.specs.Moments.{IsMoment};
 ghost use Rattle.http_frame.specs.Framers.{Stands};
-ghost use Rattle.bim_session.specs.Session.{most_requests, closes_after, continue_bytes, IsFaultResponse};
+ghost use Rattle.bim_session.specs.Session.{most_requests, closes_after, continue_bytes, answer_by, IsFaultResponse};
 ghost use Rattle.bcf_http.specs.Answers.{IsResponse};
 ghost use Rattle.bim_session.specs.ShelfNotes.{project_read, Noted};
+ghost use Rattle.bim_session.specs.declared.notes.Notes.{Notes};
 ghost use Rattle.bim_session.specs.Talking.{fresh, Feeds, Stays, with_answer, with_call, with_fault, with_framer, with_memory, with_notes, with_spent, with_end, AsksFor, waiting_on, IsNoted, KeepsNone, WantsFor, Writes, Wants, StopsNext, LacksNext, Replies, LacksFor, AtRest, IsReady, IsOwnEnd, IsOwnLeaving, IsOwnWant, leaving_after, asks_change, is_refusal, changes_nothing, IsCallable};
 
-use crate::calls::call_of;
+use crate::calls::{AskedCall, call_of};
 use crate::end::SessionEnd;
 use crate::notes::{Notes, project_read};
 use crate::want::{Waiting, Want};
@@ -20,6 +21,7 @@ use book_turn::turn::Receipt;
 use federation_book::Book;
 use http_frame::{FrameError, FrameFault, FrameStep, Framer, HttpRequest};
 use http_routes::Routes;
+use odata_filter::Listing;
 use std::alloc::{AllocError, Global};
 use std::marker::Model;
 use std::mem::drop;
@@ -49,12 +51,13 @@ impl Model for Talk {
     ghost use Rattle.std.specs.Prelude.{◌≡◌, ◌<◌, ◌≤◌, None};
     ghost use Rattle.std.specs.Coded.{codes};
     ghost use Rattle.http_frame.specs.contracts.framer.Framer as the_framer;
+    ghost use Rattle.odata_filter.specs.contracts.filter.Filter as the_filter;
     ghost use Rattle.bim_session.specs.Session.{most_requests};
     ghost use Rattle.bim_session.specs.Talking.{TalkState, IsOwnLeaving};
 
     ghost Value = { TalkState };
 
-    ghost coded = { Prim.hlevel (codes, the_framer.the_row.coded) };
+    ghost coded = { Prim.hlevel (codes, the_framer.the_row.coded, the_filter.the_row.coded) };
 
     ghost view = { λ t. record {
       framer = t.framer;
@@ -143,6 +146,18 @@ fn response_of(
     bytes
 }
 
+// The answer that a reply of the book makes, whose topics may be listed; what is noted of it is the reply's.
+fn answer_by(listing: Option<Listing>, reply: BookReply) -> Answer
+    ensures answer { result ≡ answer_by listing reply }
+    ensures noted { (turn : ℕ) (reads : Option ℕ) (old new : Notes) → IsNoted turn reads result old new
+        → Noted turn reads reply old new }
+{
+    match listing {
+        Some(listing) => Answer::Listed(reply, listing),
+        None => Answer::Book(reply),
+    }
+}
+
 // Notes an answer of the book, which is printed with this turn. An `Err` leaves the notes as they were.
 fn note(notes: &mut Notes, turn: u64, reads: Option<u32>, answer: &Answer) -> Result<(), AllocError>
     ensures ok { OnOk result (IsNoted turn reads answer.now notes.old notes.new) }
@@ -150,6 +165,7 @@ fn note(notes: &mut Notes, turn: u64, reads: Option<u32>, answer: &Answer) -> Re
 {
     match answer {
         Answer::Book(reply) => notes.take(turn, reads, reply),
+        Answer::Listed(reply, _) => notes.take(turn, reads, reply),
         _ => Ok(()),
     }
 }
@@ -331,22 +347,23 @@ impl Talk {
     fn respond(
         &mut self,
         answer: Answer,
-        waiting: Waiting,
+        kind: ReplyKind,
+        close: bool,
         turn: Option<u64>,
     ) -> Result<Want, AllocError>
         requires { self.old.leaving ≡ None }
-        ensures want { IfOk result (Writes (IsResponse answer waiting.kind turn waiting.close)) }
-        ensures ok { OnOk result (self.new ≡ with_answer waiting.close self.old) }
+        ensures want { IfOk result (Writes (IsResponse answer kind turn close)) }
+        ensures ok { OnOk result (self.new ≡ with_answer close self.old) }
         ensures err { OnErr result (self.new ≡ self.old) }
         ensures ready { IfOk result (λ want. IsReady want self.new) }
         ensures own { IfOk result IsOwnWant }
         ensures callable { IfOk result IsCallable }
     {
         let served = self.served + 1;
-        let bytes = response_of(self.alloc, answer, waiting.kind, turn, waiting.close)?;
+        let bytes = response_of(self.alloc, answer, kind, turn, close)?;
         self.served = served;
         self.waits = None;
-        self.leaving = leaving_after(served, waiting.close);
+        self.leaving = leaving_after(served, close);
         Ok(Want::Write(bytes))
     }
 
@@ -362,15 +379,19 @@ impl Talk {
     {
         let close = closes_after(&request, self.served + 1);
         let (kind, call) = call_of(self.alloc, &self.routes, request, moment);
-        let waiting = Waiting {
-            kind,
-            close,
-            changes: false,
-            reads: None,
-        };
         match call {
-            Ok(call) => self.ask(waiting, call),
-            Err(answer) => self.respond(answer, waiting, None),
+            Ok(asked) => {
+                let AskedCall { call, listing } = asked;
+                let waiting = Waiting {
+                    kind,
+                    close,
+                    changes: false,
+                    reads: None,
+                    listing,
+                };
+                self.ask(waiting, call)
+            }
+            Err(answer) => self.respond(answer, kind, close, None),
         }
     }
 
@@ -387,7 +408,7 @@ impl Talk {
             Ok(Some(reply)) => {
                 drop(call);
                 let turn = self.notes.turn;
-                self.respond(Answer::Book(reply), waiting, Some(turn))
+                self.respond(Answer::Book(reply), waiting.kind, waiting.close, Some(turn))
             }
             Ok(None) => Ok(self.wait(waiting, call)),
             Err(error) => {
@@ -404,11 +425,18 @@ impl Talk {
     {
         let changes = asks_change(&call.request);
         let reads = project_read(&call.request);
+        let Waiting {
+            kind,
+            close,
+            listing,
+            ..
+        } = waiting;
         self.waits = Some(Waiting {
-            kind: waiting.kind,
-            close: waiting.close,
+            kind,
+            close,
             changes,
             reads,
+            listing,
         });
         Want::Call(call)
     }
@@ -422,12 +450,12 @@ impl Talk {
             IfSome self.old.waits (λ waiting. Replies receipt waiting self.old want self.new)) }
         ensures ok { IsOk result }
     {
-        let Some(waiting) = self.waits else {
+        let Some(waiting) = self.waits.take() else {
             unreachable!()
         };
         match receipt {
             Ok(receipt) => self.answer_receipt(waiting, receipt),
-            Err(CallFault::Memory) => self.answer_memory(waiting),
+            Err(CallFault::Memory) => self.answer_memory(waiting.kind, waiting.close),
             Err(CallFault::PassSpent(_)) => Ok(Want::Leave(self.spend())),
         }
     }
@@ -443,12 +471,12 @@ impl Talk {
     }
 
     // The response to a call for which memory ran out.
-    fn answer_memory(&mut self, waiting: Waiting) -> Result<Want, AllocError>
+    fn answer_memory(&mut self, kind: ReplyKind, close: bool) -> Result<Want, AllocError>
         requires { self.old.leaving ≡ None }
-        ensures want { IfOk result (λ want. LacksFor waiting self.old want self.new) }
+        ensures want { IfOk result (λ want. LacksFor kind close self.old want self.new) }
         ensures ok { IsOk result }
     {
-        match self.respond(Answer::Memory, waiting, None) {
+        match self.respond(Answer::Memory, kind, close, None) {
             Ok(want) => Ok(want),
             Err(_) => Ok(Want::Leave(self.give_up())),
         }
@@ -466,56 +494,65 @@ impl Talk {
     {
         let Receipt { turn, reply } = receipt;
         let changes_nothing = changes_nothing(waiting.changes, &reply.body);
-        match self.respond_noted(waiting, turn, reply) {
+        let Waiting {
+            kind,
+            close,
+            reads,
+            listing,
+            ..
+        } = waiting;
+        match self.respond_noted(answer_by(listing, reply), kind, close, turn, reads) {
             Ok(want) => Ok(want),
             Err(_) => {
                 if changes_nothing {
-                    return self.answer_memory(waiting);
+                    return self.answer_memory(kind, close);
                 }
                 Ok(Want::Leave(self.give_up()))
             }
         }
     }
 
-    // The response of the book's reply, which is noted.
+    // The response of what the book's reply made, which is noted.
     fn respond_noted(
         &mut self,
-        waiting: Waiting,
+        answer: Answer,
+        kind: ReplyKind,
+        close: bool,
         turn: u64,
-        reply: BookReply,
+        reads: Option<u32>,
     ) -> Result<Want, AllocError>
         requires { self.old.leaving ≡ None }
-        ensures want { IfOk result (Writes
-            (IsResponse (Answer.Book reply) waiting.kind (Some turn) waiting.close)) }
-        ensures noted { OnOk result (Noted turn waiting.reads reply self.old.notes self.new.notes) }
-        ensures ok { OnOk result (self.new ≡ with_notes self.new.notes (with_answer waiting.close self.old)) }
+        ensures want { IfOk result (Writes (IsResponse answer kind (Some turn) close)) }
+        ensures noted { OnOk result (IsNoted turn reads answer self.old.notes self.new.notes) }
+        ensures ok { OnOk result (self.new ≡ with_notes self.new.notes (with_answer close self.old)) }
         ensures err { OnErr result (self.new ≡ self.old) }
     {
         let served = self.served + 1;
-        let answer = Answer::Book(reply);
-        let printed = self.print_noted(waiting, turn, &answer);
+        let printed = self.print_noted(&answer, kind, close, turn, reads);
         drop(answer);
         let bytes = printed?;
         self.served = served;
         self.waits = None;
-        self.leaving = leaving_after(served, waiting.close);
+        self.leaving = leaving_after(served, close);
         Ok(Want::Write(bytes))
     }
 
     // The bytes of that response.
     fn print_noted(
         &mut self,
-        waiting: Waiting,
-        turn: u64,
         answer: &Answer,
+        kind: ReplyKind,
+        close: bool,
+        turn: u64,
+        reads: Option<u32>,
     ) -> Result<Bytes, AllocError>
-        ensures bytes { IfOk result (IsResponse answer.now waiting.kind (Some turn) waiting.close) }
-        ensures noted { OnOk result (IsNoted turn waiting.reads answer.now self.old.notes self.new.notes) }
+        ensures bytes { IfOk result (IsResponse answer.now kind (Some turn) close) }
+        ensures noted { OnOk result (IsNoted turn reads answer.now self.old.notes self.new.notes) }
         ensures ok { OnOk result (self.new ≡ with_notes self.new.notes self.old) }
         ensures err { OnErr result (self.new ≡ self.old) }
     {
-        let bytes = to_response(self.alloc, answer, waiting.kind, Some(turn), waiting.close)?;
-        note(&mut self.notes, turn, waiting.reads, answer)?;
+        let bytes = to_response(self.alloc, answer, kind, Some(turn), close)?;
+        note(&mut self.notes, turn, reads, answer)?;
         Ok(bytes)
     }
 }

@@ -3,6 +3,7 @@ use crate::end::SessionEnd;
 use bcf_http::ReplyKind;
 use bim_model::Bytes;
 use book_history::BookCall;
+use odata_filter::Listing;
 
 /// What is to be done next for a connection.
 #[derive(Drop)]
@@ -18,7 +19,7 @@ pub enum Want {
 }
 
 /// What a response needs of the request whose call waits.
-#[derive(Clone, Copy, Debug, PartialEq, Eq)]
+#[derive(Drop)]
 pub struct Waiting {
     pub kind: ReplyKind,
     /// The connection is closed after the response.
@@ -27,4 +28,6 @@ pub struct Waiting {
     pub changes: bool,
     /// The number of the project whose clashes the call asks for.
     pub reads: Option<u32>,
+    /// How the topics of the reply are listed, if the call asks for a list of topics.
+    pub listing: Option<Listing>,
 }

@@ -14,8 +14,8 @@ pub enum ReplyBody {
     Projects(Items<u32>),
     /// The number of a project.
     Project(u32),
-    /// The topics of a project by rising serial number.
-    TopicList(Items<Topic>),
+    /// The topics of a project by rising serial number, shared with the book.
+    TopicList(Items<Shared<Topic>>),
     TopicIs(Topic),
     /// The comments on a topic by rising serial number.
     CommentList(Items<Comment>),

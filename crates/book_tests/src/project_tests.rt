@@ -154,12 +154,12 @@ pub fn is_list(rt: &impl Abort, body: &ReplyBody, titles: &[&str]) {
     }
 }
 
-fn are_made(rt: &impl Abort, topics: &[Topic], titles: &[&str]) {
+fn are_made(rt: &impl Abort, topics: &[Shared<Topic>], titles: &[&str]) {
     assert_eq!(rt; topics.len(), titles.len());
     let mut serial = 0_u64;
     for (topic, title) in topics.iter().zip(titles) {
         serial = serial.saturating_add(1);
-        is_made(rt, topic, serial, title);
+        is_made(rt, topic.get(), serial, title);
     }
 }
 

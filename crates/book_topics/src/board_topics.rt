@@ -7,7 +7,7 @@ ghost use Rattle.book_topics.specs.Boards.{next_serial, topic_at, topic_added, t
 use crate::board::Board;
 use crate::pairs::two_of;
 use bcf_topics::{Author, Topic, TopicBody, Topics};
-use bim_model::{Duplicate, Items};
+use bim_model::{Duplicate, Items, Shared};
 use std::alloc::{AllocError, Global};
 
 // Makes a topic under this number, and tells it. An `Err` leaves the topics as they were.
@@ -70,23 +70,23 @@ fn put_in(
     Ok(Put { told, body, author })
 }
 
-// Equal topics.
-fn copies(alloc: Global, topics: &[Topic]) -> Result<Items<Topic>, AllocError>
+// The same topics, none of which is copied.
+fn shared(alloc: Global, topics: &[Shared<Topic>]) -> Result<Items<Shared<Topic>>, AllocError>
     ensures { IfOk result (λ made. made ≡ topics.now) }
 {
-    let mut made = Items::new(alloc);
+    let mut made = Vec::with_capacity(alloc, topics.len())?;
     for topic in topics {
-        made.push(topic.copy(alloc)?)?;
+        made.push(topic.share()?)?;
     }
-    Ok(made)
+    Ok(Items::from_vec(made))
 }
 
 impl Board {
-    /// The topics by rising serial number.
-    pub fn topics(&self, alloc: Global) -> Result<Items<Topic>, AllocError>
+    /// The topics by rising serial number, shared.
+    pub fn topics(&self, alloc: Global) -> Result<Items<Shared<Topic>>, AllocError>
         ensures { IfOk result (λ list. list ≡ self.now.discussion.topics) }
     {
-        copies(alloc, self.topics.topics())
+        shared(alloc, self.topics.topics())
     }
 
     /// Makes a topic, and tells it. An `Err` leaves all as it was.
@@ -127,7 +127,7 @@ impl Board {
         let put = put_in(alloc, topic, body, author)?;
         let Put { told, body, author } = put;
         let Ok(()) = self.topics.put_topic(serial, body, author) else {
-            unreachable!()
+            return Err(AllocError);
         };
         Ok(told)
     }

@@ -13,7 +13,7 @@ pub error_has_none : (code name : List ℕ) → has_float (error_tree code name)
 unfolding error_tree
 error_has_none code name = refl
 
-at_has_none : (code name : List ℕ) (at : ℕ) → has_float (error_at code name at) ≡ false
+pub at_has_none : (code name : List ℕ) (at : ℕ) → has_float (error_at code name at) ≡ false
 unfolding error_at
 at_has_none code name at = refl
 

@@ -6,8 +6,8 @@ mod fault_values;
 mod fault_words;
 
 pub use errors::{
-    error_full, error_named, error_newest, error_out, error_place, error_store, error_turn,
-    error_version,
+    error_at, error_full, error_named, error_newest, error_out, error_place, error_store,
+    error_turn, error_version,
 };
 pub use fault_values::{rule_fault_out, upload_fault_out};
 pub use fault_words::{

@@ -4,3 +4,4 @@ pub mod PathNumbers
 pub mod PathParameters
 pub mod Resources
 pub mod Queries
+pub mod ListQueries

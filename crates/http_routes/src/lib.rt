@@ -3,6 +3,7 @@
 #![tactic(auto)]
 
 mod forms;
+mod list_query;
 mod number_forms;
 mod paths;
 mod query;
@@ -10,6 +11,7 @@ mod resource;
 mod routes;
 mod target;
 
+pub use list_query::{ListAsked, list_asked};
 pub use paths::{RoutePath, TopicRow, has_method, is_same, methods_text};
 pub use query::{MOST_PAIRS, Page, PageError, QueryName, grid_asked, page_asked};
 pub use resource::{Resource, TopicPlace};

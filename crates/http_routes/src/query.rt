@@ -23,6 +23,14 @@ pub enum QueryName {
     First,
     /// `count`, of clashes.
     Count,
+    /// `$filter`, of topics.
+    Filter,
+    /// `$orderby`, of topics.
+    OrderBy,
+    /// `$skip`, of topics.
+    Skip,
+    /// `$top`, of topics.
+    Top,
 }
 
 /// Which part of a list of pairs is asked for.
@@ -60,8 +68,8 @@ impl From<AllocError> for PageError {
     }
 }
 
-// Whether a part of a form stands for the text.
-fn stands_for(alloc: Global, part: &[u8], text: &str) -> Result<bool, AllocError>
+/// Whether a part of a form stands for the text.
+pub fn stands_for(alloc: Global, part: &[u8], text: &str) -> Result<bool, AllocError>
     ensures { IfOk result (λ is. is ≡ bytes_eq (form_text part.now) text.now) }
 {
     let decoded = decode(alloc, part)?;
@@ -117,16 +125,16 @@ pub fn grid_asked(alloc: Global, query: &[u8]) -> Result<Option<Mode>, AllocErro
     mode_in(alloc, value)
 }
 
-// A number that a value spells, or none.
-fn number_given(alloc: Global, value: &[u8]) -> Result<Option<u64>, AllocError>
+/// A number that a value spells, or none.
+pub fn number_given(alloc: Global, value: &[u8]) -> Result<Option<u64>, AllocError>
     ensures { IfOk result (λ number. number ≡ number_in (form_text value.now)) }
 {
     let decoded = decode(alloc, value)?;
     Ok(number_in(decoded.as_str()))
 }
 
-// A number where none was given before.
-fn if_new(before: Option<u64>, number: Option<u64>) -> Option<u64>
+/// A number where none was given before.
+pub fn if_new(before: Option<u64>, number: Option<u64>) -> Option<u64>
     ensures { result ≡ if_new before number }
 {
     match before {

@@ -35,8 +35,9 @@ use Rattle.bim_io.specs.StreamViews.{Outside}
 use Rattle.bim_session.specs.declared.notes.Notes.{Notes}
 use Rattle.bim_session.specs.ShelfNotes.{project_read, AsksKept}
 use Rattle.bim_session.specs.Works.{Standing, Printed, IsTaken, last_turn}
-use Rattle.bim_session.specs.Session.{Means, TakesTurn, Answers, AnswersEvent, Answered, asking, behind, closes_after, requests, printed_after}
-use Rattle.bim_session.specs.Talking.{TalkState, BookReceipt, AnswersAtOnce, AnswersCall, asks_change, is_refusal, changes_nothing, waiting_for}
+use Rattle.odata_filter.specs.declared.listing.Listing.{Listing}
+use Rattle.bim_session.specs.Session.{Means, Lists, answer_by, TakesTurn, Answers, AnswersEvent, Answered, asking, behind, closes_after, requests, printed_after}
+use Rattle.bim_session.specs.Talking.{TalkState, BookReceipt, AnswersAtOnce, AnswersCall, asks_change, is_refusal, changes_nothing, waiting_for, waiting_alone}
 use Rattle.bim_session.proofs.Sessions.{Answered_grown, answered_last, event_grown, entry_new}
 use Rattle.book_passes.specs.Lessons.{CallerSeen, Learns, stamp_in, turn_of, TakesTurn as Turned}
 use Rattle.book_passes.specs.LessonLaws.{TakesCall}
@@ -53,7 +54,7 @@ lacks_answers s m r bytes lacks = inr (inr (inr (record { response = lacks; idle
 
 -- an answer without a turn
 pub once_answers : (s : Standing) (m : ℕ) (r : HttpRequest) (notes : Notes) (bytes : List ℕ) → Keeps s.settings s.history notes s.printed
-    → AnswersAtOnce m r notes (waiting_for r (s.served + 1) false None) bytes → Answers (asking s m r) bytes [] s.printed
+    → AnswersAtOnce m r notes (waiting_alone r (s.served + 1)) bytes → Answers (asking s m r) bytes [] s.printed
 once_answers s m r notes bytes keeps (inl (inl refuses)) = inl (record {
   refusal = refuses.refusal;
   refused = refuses.refused;
@@ -223,7 +224,7 @@ pub record CallAnswers (k : Service) (v w w' : CallerSeen) (events : List Event)
   pub keeps : Keeps k.settings w'.seen later last
 
 module _ (k : Service) (v w w' : CallerSeen) (events : List Event) (steps : List Step) (printed : Printed) (m : ℕ) (r : HttpRequest) (call : BookCall) (receipt : BookReceipt)
-    (notes : Notes) (means : Means m r call) (asks_none : ¬ (AsksKept notes call)) (c : TakesCall k.settings call receipt.turn receipt.reply w w') (le : last_turn v.last steps ≤ w.last)
+    (notes : Notes) (means : Means m r call) (listing : Option Listing) (lists : Lists m r listing) (asks_none : ¬ (AsksKept notes call)) (c : TakesCall k.settings call receipt.turn receipt.reply w w') (le : last_turn v.last steps ≤ w.last)
     (few : printed.turn ≤ w.last) (keeps : Keeps k.settings w.seen notes printed) where
   -- the shelf before, at what was seen in the turn
   keeps_then : Keeps k.settings w'.seen notes printed
@@ -243,7 +244,7 @@ module _ (k : Service) (v w w' : CallerSeen) (events : List Event) (steps : List
       c.replied ∙ ap (λ es. reply_of k.settings es (stamp_in receipt.turn w) call) (sym at)
 
   -- the answer to a call in a turn
-  pub called_answers : (bytes : List ℕ) (later : Notes) → AnswersCall (Ok receipt) (waiting_for r (0 + requests events + 1) (asks_change call.request) (project_read call.request)) notes bytes later
+  pub called_answers : (bytes : List ℕ) (later : Notes) → AnswersCall (Ok receipt) (waiting_for r (0 + requests events + 1) (asks_change call.request) (project_read call.request) listing) notes bytes later
       → CallAnswers k v w w' events steps printed m r call receipt.turn bytes later
   unfolding turn_in
   called_answers bytes later (inl booked) =
@@ -258,7 +259,9 @@ module _ (k : Service) (v w w' : CallerSeen) (events : List Event) (steps : List
         answers = inr (inr (inl (record {
           unkept = unkept (stands k v w' events steps printed) m r notes call keeps_then means asks_none;
           taken = turn_in k v w w' events steps printed m r call turn c.others means c.takes le;
-          response = subst (λ (b : BookReply). IsResponse (answer.Book b) (kind_of r) (Some turn) (closes_after r (0 + requests events + 1)) bytes) replied_then booked.0;
+          listing = listing;
+          lists = lists;
+          response = subst (λ (b : BookReply). IsResponse (answer_by listing b) (kind_of r) (Some turn) (closes_after r (0 + requests events + 1)) bytes) replied_then booked.0;
           above = (let lt : printed.turn < turn = omega (arith, few, above) in lt);
           printed_is = refl;
         })));

@@ -32,7 +32,7 @@ use Rattle.book_passes.specs.Lessons.{CallerSeen, AllOf, stamp_in, turn_of}
 use Rattle.book_passes.specs.LessonLaws.{TakesCall}
 use Rattle.bcf_http.specs.declared.asked.RequestFault.{RequestFault}
 use Rattle.bcf_http.specs.declared.asked.Action.{Action}
-use Rattle.bcf_http.specs.declared.asked.Action.TheVariants.{Call, Build}
+use Rattle.bcf_http.specs.declared.asked.Action.TheVariants.{Call, Build, AskList}
 use Rattle.bcf_http.specs.declared.answers.Answer.TheVariants as answer
 use Rattle.bcf_http.specs.ReplyKinds.{kind_of}
 use Rattle.bcf_http.specs.Asked.{asked_by}
@@ -41,7 +41,7 @@ use Rattle.bim_session.specs.declared.notes.Notes.{Notes}
 use Rattle.bim_session.specs.ShelfNotes.{project_read, set_told, put_set, IsUpTo, AsksShelf, AsksKept, Noted}
 use Rattle.bim_session.specs.Works.{Standing, Printed}
 use Rattle.bim_session.specs.Session.{Means, MeansRequest, kept_call, IsKept, IsShelved, asking, up_to_printed, with_set, printed_after, closes_after}
-use Rattle.bim_session.specs.Talking.{AnswersKept, KeepsNone, waiting_for}
+use Rattle.bim_session.specs.Talking.{AnswersKept, KeepsNone, waiting_alone}
 use Rattle.bim_session.proofs.Sessions.{up_to_grown}
 use Rattle.book_history.proofs.Staying.{Settled, settled_later, newest_later, read_settled}
 use Rattle.link_session.proofs.ToldClashes.{read_told}
@@ -172,7 +172,7 @@ up_to_below turn printed (Some given) is le = let low : given ≤ printed = le i
 
 -- the answer to a request for clashes that are kept
 pub shelved : (s : Standing) (m : ℕ) (r : HttpRequest) (notes : Notes) (bytes : List ℕ) → Keeps s.settings s.history notes s.printed
-    → AnswersKept m r notes (waiting_for r (s.served + 1) false None) bytes → IsShelved (asking s m r) bytes [] s.printed
+    → AnswersKept m r notes (waiting_alone r (s.served + 1)) bytes → IsShelved (asking s m r) bytes [] s.printed
 shelved s m r notes bytes keeps x = of_kind keeps.kept
   where
     of_kind : KeepsNothing notes s.printed.sets ⊎ KeepsSome s.settings s.history notes s.printed → IsShelved (asking s m r) bytes [] s.printed
@@ -220,6 +220,7 @@ means_one : (asked : Result Action RequestFault) (id v first count : ℕ) (reque
     → request ≡ ReadClashes id (Number v) first count
 means_one (Ok (Call one)) id v first count request a b = sym b ∙ a
 means_one (Ok (Build project name mode body)) id v first count request a b = let e = a.2 in cc
+means_one (Ok (AskList project query bad_turn)) id v first count request a b = let e = a.2 in cc
 means_one (Err fault) id v first count request a b = absurd a
 
 -- the request of a call that is made asks for no clashes that are kept

@@ -23,10 +23,11 @@ use Rattle.bim_session.specs.declared.want.Want.{Want}
 use Rattle.bim_session.specs.declared.want.Want.TheVariants.{More, Write, Call, Leave}
 use Rattle.bim_session.specs.ShelfNotes.{project_read, AsksKept}
 use Rattle.bim_session.specs.Works.{Printed}
-use Rattle.bim_session.specs.Session.{Stop, Reads, AnswersEvent, Ends, IsNext, Means, TakesUnanswered, TakesTurn, NeedsTurn, asking, closes_after, counted, requests}
+use Rattle.odata_filter.specs.declared.listing.Listing.{Listing}
+use Rattle.bim_session.specs.Session.{Stop, Reads, AnswersEvent, Ends, IsNext, Means, Lists, TakesUnanswered, TakesTurn, NeedsTurn, asking, closes_after, counted, requests}
 use Rattle.bim_session.specs.Session as session
 use Rattle.bim_session.specs.Replay.{IsReadFault, IsWriteFault}
-use Rattle.bim_session.specs.Talking.{TalkState, BookReceipt, Wants, LacksNext, Continues, AnswersOne, AnswersFault, TakesRequest, MeetsEnd, IsOwnWant, AnswersAtOnce, AnswersCall, LeavesCall, with_answer, with_call, with_framer, with_notes, leaving_after, asks_change, waiting_for}
+use Rattle.bim_session.specs.Talking.{TalkState, BookReceipt, Wants, LacksNext, Continues, AnswersOne, AnswersFault, TakesRequest, MeetsEnd, IsOwnWant, AnswersAtOnce, AnswersCall, LeavesCall, with_answer, with_call, with_framer, with_notes, leaving_after, asks_change, waiting_for, waiting_alone}
 use Rattle.link_session.specs.Callers.{LearnsBy, Calls, steps_of}
 use Rattle.link_session.specs.inner.Loop.{Reading, StopsReading, Writing, Called, StopsAnswering, Does, StepsOn}
 use Rattle.bim_io.specs.Writes.{WritesLess}
@@ -189,7 +190,7 @@ once k v w a old mid server so moments bytes x = (
   x.0.moment,
   x.0.one,
   once_answers (stands k v server so.events so.steps so.printed) x.0.moment x.0.request old.notes bytes so.kept
-      (subst (λ (n : ℕ). AnswersAtOnce x.0.moment x.0.request old.notes (waiting_for x.0.request (n + 1) false None) bytes) so.served x.1),
+      (subst (λ (n : ℕ). AnswersAtOnce x.0.moment x.0.request old.notes (waiting_alone x.0.request (n + 1)) bytes) so.served x.1),
 )
 
 alone_request : (k : Service) (v : CallerSeen) (w a : Outside) (old mid : TalkState) (server : CallerSeen) (so : SoFar k v w a old server) (moments bytes : List ℕ)
@@ -400,8 +401,8 @@ goes_lacks k v w a b old new server so lacks source sink empty =
 -- ---- a call
 
 -- what the response needs that waits for a call of this request
-abbrev waiting_at : HttpRequest → ℕ → BookCall → Waiting
-waiting_at r n call = waiting_for r n (asks_change call.request) (project_read call.request)
+abbrev waiting_at : HttpRequest → ℕ → BookCall → Option Listing → Waiting
+waiting_at r n call listing = waiting_for r n (asks_change call.request) (project_read call.request) listing
 
 -- a request was taken, which means the call, and asks for nothing that is kept
 pub record Asks (k : Service) (v : CallerSeen) (w a b : Outside) (old mid : TalkState) (server : CallerSeen) (so : SoFar k v w a old server) (call : BookCall) (waiting : Waiting) : Type 0 where
@@ -411,8 +412,10 @@ pub record Asks (k : Service) (v : CallerSeen) (w a b : Outside) (old mid : Talk
   pub one : TakesRequest so.rest so.told moments mid.framer
   pub means : Means one.moment one.request call
   pub asks_none : ¬ (AsksKept old.notes call)
-  pub state : mid ≡ with_call (waiting_at one.request (old.served + 1) call) (with_framer mid.framer old)
-  pub waiting_is : waiting ≡ waiting_at one.request (0 + requests so.events + 1) call
+  pub listing : Option Listing
+  pub lists : Lists one.moment one.request listing
+  pub state : mid ≡ with_call (waiting_at one.request (old.served + 1) call listing) (with_framer mid.framer old)
+  pub waiting_is : waiting ≡ waiting_at one.request (0 + requests so.events + 1) call listing
 
 same_waiting : (o : Option Waiting) (x y : Waiting) → o ≡ Some x → o ≡ Some y → y ≡ x
 same_waiting o x y e d = cc
@@ -429,9 +432,11 @@ asks_of k v w a b old mid server so call waiting wants waits =
       one = x.0;
       means = x.1;
       asks_none = x.2;
-      state = x.3;
-      waiting_is = same_waiting mid.waits (waiting_at x.0.request (old.served + 1) call) waiting (ap (λ (z : TalkState). z.waits) x.3) waits
-          ∙ ap (λ (n : ℕ). waiting_at x.0.request (n + 1) call) so.served;
+      listing = x.3.0;
+      lists = x.3.1;
+      state = x.3.2;
+      waiting_is = same_waiting mid.waits (waiting_at x.0.request (old.served + 1) call x.3.0) waiting (ap (λ (z : TalkState). z.waits) x.3.2) waits
+          ∙ ap (λ (n : ℕ). waiting_at x.0.request (n + 1) call x.3.0) so.served;
     }
 
 module _ (k : Service) (v : CallerSeen) (w a b : Outside) (old mid : TalkState) (server server' : CallerSeen) (so : SoFar k v w a old server) (call : BookCall) (waiting : Waiting)
@@ -448,9 +453,9 @@ module _ (k : Service) (v : CallerSeen) (w a b : Outside) (old mid : TalkState) 
 
   -- what the response is, by what the talk shows
   response_of : (receipt : Result BookReceipt CallFault) (bytes : List ℕ) (later : Notes) → AnswersCall receipt waiting mid.notes bytes later
-      → AnswersCall receipt (waiting_at x.one.request (0 + requests so.events + 1) call) old.notes bytes later
+      → AnswersCall receipt (waiting_at x.one.request (0 + requests so.events + 1) call x.listing) old.notes bytes later
   response_of receipt bytes later answers =
-      subst (λ (n : Notes). AnswersCall receipt (waiting_at x.one.request (0 + requests so.events + 1) call) n bytes later) mid_notes
+      subst (λ (n : Notes). AnswersCall receipt (waiting_at x.one.request (0 + requests so.events + 1) call x.listing) n bytes later) mid_notes
       (subst (λ (z : Waiting). AnswersCall receipt z mid.notes bytes later) x.waiting_is answers)
 
   -- what is known once the call was made
@@ -510,7 +515,7 @@ answer_of : (k : Service) (v : CallerSeen) (w a b : Outside) (old mid : TalkStat
     → AnswersCall (Ok receipt) waiting mid.notes bytes later
     → CallAnswers k v server server' so.events so.steps so.printed x.one.moment x.one.request call receipt.turn bytes later
 answer_of k v w a b old mid server server' so call waiting x receipt bytes later calls answers =
-    called_answers k v server server' so.events so.steps so.printed x.one.moment x.one.request call receipt old.notes x.means x.asks_none calls (last_of k v w a old server so)
+    called_answers k v server server' so.events so.steps so.printed x.one.moment x.one.request call receipt old.notes x.means x.listing x.lists x.asks_none calls (last_of k v w a old server so)
     so.turns so.kept bytes later (response_of k v w a b old mid server server' so call waiting x (Ok receipt) bytes later answers)
 
 -- the answer to a call, in its turn or in none

@@ -7,6 +7,7 @@ ghost use Rattle.odata_filter.specs.inner.PageFronts.{NoneBefore, IsFront};
 use crate::filter::Filter;
 use crate::topic_order::{Order, OrderKey, by_keys};
 use bcf_topics::Topic;
+use bim_model::Shared;
 use std::alloc::{AllocError, Global};
 use std::cmp::Ordering;
 
@@ -36,7 +37,7 @@ fn kept(filter: &Option<Filter>, topic: &Topic) -> bool
 fn kept_places(
     alloc: Global,
     filter: &Option<Filter>,
-    topics: &[Topic],
+    topics: &[Shared<Topic>],
 ) -> Result<Vec<u32>, AllocError>
     requires { length topics.now ≤ 4294967295 }
     ensures { IfOk result (λ places. places.items ≡ kept_from 0 filter.now topics.now) }
@@ -44,7 +45,7 @@ fn kept_places(
     let mut places = Vec::new(alloc);
     let mut place = 0;
     for topic in topics {
-        if kept(filter, topic) {
+        if kept(filter, topic.get()) {
             places.push(place)?;
         }
         place += 1;
@@ -64,12 +65,12 @@ fn keys_of(order: &Option<Order>) -> &[OrderKey]
 
 // Two places by their topics, and those that tie by the places themselves.
 #[tactic(auto, unfolding(crate::specs::Listings::by_places))]
-fn by_places(keys: &[OrderKey], topics: &[Topic], i: u32, j: u32) -> Ordering
+fn by_places(keys: &[OrderKey], topics: &[Shared<Topic>], i: u32, j: u32) -> Ordering
     ensures { result ≡ by_places keys.now topics.now i j }
 {
     let order = match topics.get(i as usize) {
         Some(x) => match topics.get(j as usize) {
-            Some(y) => by_keys(keys, x, y),
+            Some(y) => by_keys(keys, x.get(), y.get()),
             None => Ordering::Greater,
         },
         None => match topics.get(j as usize) {
@@ -84,7 +85,7 @@ fn by_places(keys: &[OrderKey], topics: &[Topic], i: u32, j: u32) -> Ordering
 fn select(
     alloc: Global,
     keys: &[OrderKey],
-    topics: &[Topic],
+    topics: &[Shared<Topic>],
     places: &mut [u32],
     count: usize,
 ) -> Result<Vec<u32>, AllocError>
@@ -104,7 +105,7 @@ fn select(
 fn front_of(
     alloc: Global,
     keys: &[OrderKey],
-    topics: &[Topic],
+    topics: &[Shared<Topic>],
     places: Vec<u32>,
     skip: u64,
     top: Option<u64>,
@@ -124,7 +125,7 @@ fn front_of(
 }
 
 // The places in their order.
-fn sort(keys: &[OrderKey], topics: &[Topic], places: &mut Vec<u32>)
+fn sort(keys: &[OrderKey], topics: &[Shared<Topic>], places: &mut Vec<u32>)
     ensures permutation { IsPermutation places.old.items places.new.items }
     ensures sorted { IsSorted (by_places keys.now topics.now) places.new.items }
 {
@@ -149,7 +150,7 @@ fn page_of(alloc: Global, skip: u64, top: Option<u64>, list: &[u32]) -> Result<V
 impl Listing {
     /// The places of the topics that are listed, in their order. No topic is copied. An `Err` is want of memory; more
     /// than 4,294,967,295 topics count as that.
-    pub fn places(&self, alloc: Global, topics: &[Topic]) -> Result<Vec<u32>, AllocError>
+    pub fn places(&self, alloc: Global, topics: &[Shared<Topic>]) -> Result<Vec<u32>, AllocError>
         ensures { IfOk result (λ places. IsListed self.now topics.now places.items) }
     {
         if topics.len() > u32::MAX as usize {

@@ -3,7 +3,7 @@ ghost use Rattle.std.specs.Prelude.{◌≤◌};
 
 use crate::sample_rows::{SAMPLES, Sample};
 use bcf_topics::{Topic, TopicBody};
-use bim_model::{Author, Items, Moment, Text};
+use bim_model::{Author, Items, Moment, Shared, Text};
 use std::alloc::{AllocError, Global};
 
 fn text(alloc: Global, text: Option<&str>) -> Result<Option<Text>, AllocError> {
@@ -74,10 +74,10 @@ fn topic(alloc: Global, sample: &Sample) -> Result<Topic, AllocError> {
 }
 
 /// The sample topics, by rising serial number.
-pub fn sample_topics(alloc: Global) -> Result<Vec<Topic>, AllocError> {
+pub fn sample_topics(alloc: Global) -> Result<Vec<Shared<Topic>>, AllocError> {
     let mut topics = Vec::new(alloc);
     for sample in SAMPLES.iter() {
-        topics.push(topic(alloc, sample)?)?;
+        topics.push(Shared::new(alloc, topic(alloc, sample)?)?)?;
     }
     Ok(topics)
 }

@@ -11,6 +11,7 @@ use crate::sample_topics::sample_topics;
 use crate::table_rows::{ListingRow, LongRow, Row, Wanted};
 use crate::text_rows::TEXT_FILTERS;
 use bcf_topics::Topic;
+use bim_model::Shared;
 use odata_filter::{Filter, FilterError, Listing, Order};
 use std::alloc::{AllocError, Global};
 use std::mem::drop;
@@ -18,11 +19,11 @@ use std::process::Abort;
 use std::test::Fail;
 
 // Whether these places are those of the topics with these serial numbers.
-fn are_of(places: &[u32], topics: &[Topic], serials: &[u64]) -> bool {
+fn are_of(places: &[u32], topics: &[Shared<Topic>], serials: &[u64]) -> bool {
     for (place, serial) in places.iter().zip(serials) {
         match topics.get(*place as usize) {
             Some(topic) => {
-                if topic.serial != *serial {
+                if topic.get().serial != *serial {
                     return false;
                 }
             }
@@ -49,7 +50,7 @@ fn order_of(alloc: Global, text: Option<&[u8]>) -> Result<Option<Order>, FilterE
 // The places of the topics that the texts list.
 fn listed(
     alloc: Global,
-    topics: &[Topic],
+    topics: &[Shared<Topic>],
     filter: Option<&[u8]>,
     order: Option<&[u8]>,
     skip: u64,
@@ -71,7 +72,7 @@ fn listed(
 // Whether the topics at these places are wanted, or a text is refused where that is wanted.
 fn is_as_wanted(
     found: Result<Vec<u32>, FilterError>,
-    topics: &[Topic],
+    topics: &[Shared<Topic>],
     wanted: Wanted,
 ) -> Result<bool, AllocError> {
     match found {
@@ -90,7 +91,7 @@ fn is_as_wanted(
 // The first filter of a table that isn't as wanted.
 fn wrong_filter(
     alloc: Global,
-    topics: &[Topic],
+    topics: &[Shared<Topic>],
     rows: &[Row],
 ) -> Result<Option<&'static str>, AllocError> {
     for (text, wanted) in rows {
@@ -111,7 +112,10 @@ fn filters_are_as_wanted(rt: &impl Abort, alloc: Global, rows: &[Row]) -> Result
 }
 
 // The first order that isn't as wanted.
-fn wrong_order(alloc: Global, topics: &[Topic]) -> Result<Option<&'static str>, AllocError> {
+fn wrong_order(
+    alloc: Global,
+    topics: &[Shared<Topic>],
+) -> Result<Option<&'static str>, AllocError> {
     for (text, wanted) in ORDERS.iter() {
         let found = listed(alloc, topics, None, Some(text.as_bytes()), 0, None);
         if !is_as_wanted(found, topics, *wanted)? {
@@ -134,7 +138,10 @@ fn long_text(alloc: Global, row: &LongRow) -> Result<Vec<u8>, AllocError> {
 }
 
 // The first long filter that isn't as wanted.
-fn wrong_long_filter(alloc: Global, topics: &[Topic]) -> Result<Option<LongRow>, AllocError> {
+fn wrong_long_filter(
+    alloc: Global,
+    topics: &[Shared<Topic>],
+) -> Result<Option<LongRow>, AllocError> {
     for row in LONG_FILTERS.iter() {
         let text = long_text(alloc, row)?;
         let found = listed(alloc, topics, Some(text.as_slice()), None, 0, None);
@@ -146,7 +153,10 @@ fn wrong_long_filter(alloc: Global, topics: &[Topic]) -> Result<Option<LongRow>,
 }
 
 // The first long order that isn't as wanted.
-fn wrong_long_order(alloc: Global, topics: &[Topic]) -> Result<Option<LongRow>, AllocError> {
+fn wrong_long_order(
+    alloc: Global,
+    topics: &[Shared<Topic>],
+) -> Result<Option<LongRow>, AllocError> {
     for row in LONG_ORDERS.iter() {
         let text = long_text(alloc, row)?;
         let found = listed(alloc, topics, None, Some(text.as_slice()), 0, None);
@@ -165,7 +175,10 @@ fn bytes_of<'t>(text: Option<&'t str>) -> Option<&'t [u8]> {
 }
 
 // The first listing that isn't as wanted.
-fn wrong_listing(alloc: Global, topics: &[Topic]) -> Result<Option<ListingRow>, AllocError> {
+fn wrong_listing(
+    alloc: Global,
+    topics: &[Shared<Topic>],
+) -> Result<Option<ListingRow>, AllocError> {
     for row in LISTINGS.iter() {
         let found = listed(
             alloc,

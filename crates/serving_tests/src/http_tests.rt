@@ -1,13 +1,16 @@
 //! What requests ask for, and responses against bytes written by hand.
 use bcf_bodies::BodyFault;
-use bcf_http::{Action, Answer, Refusal, ReplyKind, RequestFault, asked_of, to_response};
+use bcf_http::{
+    Action, Answer, Refusal, ReplyKind, RequestFault, asked_of, listing_of, to_response,
+};
 use bcf_topics::{CommentIn, Topic, TopicBody};
 use bcf_viewpoints::ViewPart;
-use bim_model::{Author, Bytes, Items, Mode, Moment, Text};
+use bim_model::{Author, Bytes, Items, Mode, Moment, Shared, Text};
 use book_history::{BookFault, BookReply, BookRequest, Horizon, ReplyBody, Wanted};
 use clash_rules::RuleFault;
 use http_frame::{FrameFault, HttpRequest, TurnField};
-use http_routes::{QueryName, RoutePath, Routes};
+use http_routes::{ListAsked, QueryName, RoutePath, Routes};
+use odata_filter::Listing;
 use std::alloc::{AllocError, Global};
 use std::process::Abort;
 use std::test::Fail;
@@ -180,6 +183,21 @@ fn request_line(alloc: Global, request: &BookRequest) -> Result<String, AllocErr
     }
 }
 
+fn text_or(text: &Option<Text>) -> &str {
+    match text {
+        Some(text) => text.as_str(),
+        None => "-",
+    }
+}
+
+fn list_line(alloc: Global, project: u128, asked: &ListAsked) -> Result<String, AllocError> {
+    let filter = text_or(&asked.filter);
+    let order = text_or(&asked.order);
+    let skip = asked.skip.unwrap_or(0);
+    let top = asked.top.unwrap_or(0);
+    format!(in alloc; "list {project:032x} {filter} {order} {skip} {top}")
+}
+
 fn asked_line(alloc: Global, asked: &Result<Action, Refusal>) -> Result<String, AllocError> {
     match asked {
         Ok(Action::Call(request)) => request_line(alloc, request),
@@ -191,6 +209,7 @@ fn asked_line(alloc: Global, asked: &Result<Action, Refusal>) -> Result<String, 
                 body,
             },
         ) => model_line(alloc, *project, name.as_str(), *mode, body.as_slice()),
+        Ok(Action::AskList { project, asked, .. }) => list_line(alloc, *project, asked),
         Err(_) => String::from_str(alloc, "refused"),
     }
 }
@@ -226,6 +245,16 @@ fn topics_and_comments_are_asked_for(rt: HostRuntime) -> Result<(), Fail> {
     let wanted =
         "comment 00000001000080008000000000000000 00000001000080008000000000000001 00000001000080008000000000000002 Moved 00000001000080008000000000000003 anna 75";
     asks(&rt, rt.alloc(), ("PUT", target, said), wanted)
+}
+
+#[test]
+fn lists_of_topics_are_asked_for(rt: HostRuntime) -> Result<(), Fail> {
+    let target =
+        "/bcf/3.0/projects/00000001-0000-8000-8000-000000000000/topics?%24filter=title%20eq+%27a%27&$top=2&x=1&$orderby=title";
+    let wanted = "list 00000001000080008000000000000000 title eq 'a' title 0 2";
+    asks(&rt, rt.alloc(), ("GET", target, ""), wanted)?;
+    let twice = "/bcf/3.0/projects/00000001-0000-8000-8000-000000000000/topics?$top=2&$top=2";
+    asks(&rt, rt.alloc(), ("GET", twice, ""), "refused")
 }
 
 #[test]
@@ -408,7 +437,7 @@ fn a_bad_turn_is_judged_behind_the_query_and_before_the_body(rt: HostRuntime) ->
     let alloc = rt.alloc();
     let topics = "/bcf/3.0/projects/00000001-0000-8000-8000-000000000000/topics";
     for request in [
-        ("GET", topics, ""),
+        ("GET", "/bcf/3.0/projects", ""),
         ("POST", topics, "["),
         ("POST", topics, "{}"),
     ] {
@@ -432,6 +461,61 @@ fn a_bad_turn_is_judged_behind_the_query_and_before_the_body(rt: HostRuntime) ->
     )?;
     let target = "/coord/1/projects/00000001-0000-8000-8000-000000000000/models/m";
     refuses_turn(&rt, alloc, ("PUT", target, ""), RequestFault::BadTurn)
+}
+
+// The fault of a list, if it has one.
+fn fault_of(listing: Result<Listing, Refusal>) -> Option<RequestFault> {
+    match listing {
+        Ok(listing) => {
+            drop(listing);
+            None
+        }
+        Err(Refusal::Fault(fault)) => Some(fault),
+        Err(Refusal::Memory) => None,
+    }
+}
+
+// The fault of a request for a list with a bad turn, once its texts were read.
+fn list_fault(alloc: Global, target: &str) -> Result<Option<RequestFault>, Fail> {
+    let (_, asked) = asked_above(alloc, TurnField::Bad, ("GET", target, ""))?;
+    match asked {
+        Ok(Action::AskList { asked, bad_turn, .. }) => {
+            let fault = fault_of(listing_of(alloc, &asked, bad_turn));
+            drop(asked);
+            Ok(fault)
+        }
+        other => {
+            drop(other);
+            Ok(None)
+        }
+    }
+}
+
+fn refuses_list(
+    rt: &impl Abort,
+    alloc: Global,
+    target: &str,
+    wanted: RequestFault,
+) -> Result<(), Fail> {
+    let fault = list_fault(alloc, target)?;
+    let is_refused = fault == Some(wanted);
+    drop(fault);
+    assert!(rt; is_refused);
+    Ok(())
+}
+
+#[test]
+fn a_bad_turn_of_a_list_is_judged_behind_its_texts(rt: HostRuntime) -> Result<(), Fail> {
+    let alloc = rt.alloc();
+    let target =
+        "/bcf/3.0/projects/00000001-0000-8000-8000-000000000000/topics?$orderby=labels&$filter=title+gt+5";
+    refuses_list(&rt, alloc, target, RequestFault::Filter { at: 9 })?;
+    let target =
+        "/bcf/3.0/projects/00000001-0000-8000-8000-000000000000/topics?$orderby=labels&$filter=title+gt+%275%27";
+    refuses_list(&rt, alloc, target, RequestFault::Order { at: 0 })?;
+    let target =
+        "/bcf/3.0/projects/00000001-0000-8000-8000-000000000000/topics?$orderby=title&$top=2";
+    refuses_list(&rt, alloc, target, RequestFault::BadTurn)
 }
 
 fn pipe(alloc: Global) -> Result<Topic, AllocError> {
@@ -471,8 +555,8 @@ fn made(alloc: Global) -> Result<Answer, AllocError> {
     Ok(replied(ReplyBody::TopicIs(pipe(alloc)?)))
 }
 
-fn pipes(alloc: Global) -> Result<Items<Topic>, AllocError> {
-    let pipe = pipe(alloc)?;
+fn pipes(alloc: Global) -> Result<Items<Shared<Topic>>, AllocError> {
+    let pipe = Shared::new(alloc, pipe(alloc)?)?;
     let mut topics = Items::new(alloc);
     match topics.push(pipe) {
         Ok(()) => Ok(topics),
@@ -485,6 +569,19 @@ fn pipes(alloc: Global) -> Result<Items<Topic>, AllocError> {
 
 fn listed(alloc: Global) -> Result<Answer, AllocError> {
     Ok(replied(ReplyBody::TopicList(pipes(alloc)?)))
+}
+
+// The same list without its first topic.
+fn listed_behind_the_first(alloc: Global) -> Result<Answer, AllocError> {
+    let horizon = Horizon { newest: [0; 8] };
+    let body = ReplyBody::TopicList(pipes(alloc)?);
+    let listing = Listing {
+        filter: None,
+        order: None,
+        skip: 1,
+        top: None,
+    };
+    Ok(Answer::Listed(BookReply { body, horizon }, listing))
 }
 
 // The response that a method isn't one of the row's.
@@ -528,6 +625,10 @@ fn topics_are_written(rt: HostRuntime) -> Result<(), Fail> {
     let wanted =
         "HTTP/1.1 200 OK\r\nContent-Type: application/json\r\nX-Book-Turn: 2\r\nContent-Length: 158\r\n\r\n[{\"creation_author\":\"anonymous\",\"creation_date\":\"2024-05-01T12:00:00Z\",\"guid\":\"00000001-0000-8000-8000-000000000001\",\"server_assigned_id\":\"1\",\"title\":\"Pipe\"}]";
     try_answer(&rt, alloc, listed(alloc)?, kind, wanted)?;
+    let kind = (whole(false, false), Some(3), false);
+    let wanted =
+        "HTTP/1.1 200 OK\r\nContent-Type: application/json\r\nX-Book-Turn: 3\r\nContent-Length: 2\r\n\r\n[]";
+    try_answer(&rt, alloc, listed_behind_the_first(alloc)?, kind, wanted)?;
     Ok(())
 }
 

@@ -5,7 +5,7 @@ use Rattle.bcf_http.proofs.BadTurns.{bad_asked, bad_fault}
 use Rattle.bcf_http.proofs.asked.bad_turn.Goals as goal
 
 pub returns-in-Ok : goal.returns-in-Ok
-returns-in-Ok c meant meant_is = bad_asked c.args.asked meant meant_is c.in-Ok.action c.in-Ok.is
+returns-in-Ok c meant meant_is = bad_asked c.args.asked meant meant_is c.in-Ok.action c.told_of.result c.in-Ok.is c.told_of.ensures
 
 pub returns-in-Err-Fault : goal.returns-in-Err-Fault
 returns-in-Err-Fault c meant meant_is =

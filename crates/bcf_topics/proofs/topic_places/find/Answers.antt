@@ -7,5 +7,5 @@ pub returns-in-Some : goal.returns-in-Some
 returns-in-Some c =
     let p = c.in-Some.ensures in
     let x = c.index-topics-at.result in
-    ap (λ (t : Topic). Some t) c.index-topics-at.is
+    ap (λ (t : Topic). Some t) (c.get.ensures ∙ c.index-topics-at.is)
     ∙ sym (found_of c.args.serial c.args.topics.now c.in-Some.at x c.requires p.within (p.number x))

@@ -5,7 +5,7 @@ use Rattle.bcf_topics.specs.declared.topic.Topic.{Topic}
 use Rattle.bcf_topics.specs.Topics.{topic_put}
 use Rattle.bcf_topics.specs.Discussions.{Discussion}
 use Rattle.book_topics.specs.Boards.{BoardState, topic_at, topic_replaced}
-use Rattle.book_topics.proofs.Boards.{board, topic_replaced_is, topic_unrefused, no_error}
+use Rattle.book_topics.proofs.Boards.{board, topic_replaced_is}
 use Rattle.book_topics.proofs.board.Board.put_topic.Goals as goal
 
 pub unreachable-requires : goal.unreachable-requires
@@ -13,13 +13,8 @@ unreachable-requires c =
     let there = subst (λ (b : BoardState). IsSome (topic_at b c.args.serial)) (sym c.self.view_is) c.requires in
     false≢true (subst (λ (o : Option Topic). IsSome o) (sym c.topic.ensures ∙ ap option_copied c.in_default.is) there)
 
-pub unreachable-requires-in_default-put_topic : goal.unreachable-requires-in_default-put_topic
-unreachable-requires-in_default-put_topic c =
-    let there = subst (λ (b : BoardState). IsSome (topic_at b c.args.serial)) (sym c.self.view_is) c.requires in
-    no_error _ _ _ c.put_topic.ensures.answer (topic_unrefused c.args.serial c.self.inside.topics there) c.in_default-put_topic.is
-
-pub invariant_of-self : goal.invariant_of-self
-invariant_of-self c =
+pub invariant_of-self-2 : goal.invariant_of-self-2
+invariant_of-self-2 c =
     let b = board c.self.inside.topics c.self.inside.views c.self.inside.made in
     rw c.in-Ok.ensures.after (topic_replaced_is b c.args.serial c.in_ok-put.put.body c.in_ok-put.put.author c.self.invariant)
 
