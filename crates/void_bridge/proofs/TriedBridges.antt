@@ -1,6 +1,6 @@
 -- A bridge that isn't free stays so: what is known of bridges, once a loop is put into the list.
 use Rattle.std.proofs.Common.{◌≡◌, ◌∙◌, ap, sym, refl, subst, ℕ, zero, suc, ◌+◌, ◌-◌, ◌<◌, ◌≤◌, Bool, true, false, not, ◌&&◌, ◌||◌, cond, inl, inr, List, [], ◌∷◌, ◌++◌, append_assoc, length, take, drop, Option, Some, None, arith}
-use Rattle.std.specs.Prelude.{slice_index_or, remove, ◌==◌}
+use Rattle.std.specs.Prelude.{slice_index_or, remove}
 use Rattle.std.specs.List.{list_any}
 use Rattle.std.specs.Option.{option_map}
 use Rattle.std.proofs.lemmas.Bool.{cases_lt}
@@ -78,8 +78,8 @@ none_on view edges more current joined loop k j i m t e =
     let new = λ (n : ℕ). is_free view (edges ++ more) (turn_at joined m) (slice_index_or loop n nobody) in
     let none : first_from old 0 (length loop) ≡ None = map_none (bridge k i) (first_from old 0 (length loop)) e in
     let still : (n : ℕ) → n < length loop → new n ≡ false = λ n h.
-        ap (λ (u : Turn). is_free view (edges ++ more) u (slice_index_or loop n nobody)) t
-        ∙ free_no_more view edges more (turn_at current i) (slice_index_or loop n nobody) (none_at old 0 (length loop) n none (omega arith) (omega (arith, h))) in
+    ap (λ (u : Turn). is_free view (edges ++ more) u (slice_index_or loop n nobody)) t
+    ∙ free_no_more view edges more (turn_at current i) (slice_index_or loop n nobody) (none_at old 0 (length loop) n none (omega arith) (omega (arith, h))) in
     ap (option_map (bridge j m)) (sym (first_is new (length loop) None still))
 
 -- ---- the corners of the joined list that were there before
@@ -184,11 +184,11 @@ one_more tried from more taken old new count n e f told last =
     (λ m k h. elim (cases_lt m n) [
       | inl l ↦ told m k (subst (λ (x : ℕ). k < x) (get_or_append_left old (count ∷ []) 0 m (omega (arith, l, e))) h)
       | inr l ↦ elim (cases_lt n m) [
-          | inl o ↦ absurd (nothing_below k (subst (λ (x : ℕ). k < x) (get_or_past (old ++ count ∷ []) m 0 (omega (arith, o, e, length_push old count))) h))
-          | inr o ↦ let s : n ≡ m = omega (arith, l, o) in
-              subst (λ (x : ℕ). WasTriedFrom tried from more taken x k) s
-              (last k (subst (λ (x : ℕ). k < x) (get_or_at old count [] 0 m (e ∙ s)) h))
-        ]
+        | inl o ↦ absurd (nothing_below k (subst (λ (x : ℕ). k < x) (get_or_past (old ++ count ∷ []) m 0 (omega (arith, o, e, length_push old count))) h))
+        | inr o ↦ let s : n ≡ m = omega (arith, l, o) in
+            subst (λ (x : ℕ). WasTriedFrom tried from more taken x k) s
+            (last k (subst (λ (x : ℕ). k < x) (get_or_at old count [] 0 m (e ∙ s)) h))
+      ]
     ])
   where
     nothing_below : (k : ℕ) → k < 0 → ⊥

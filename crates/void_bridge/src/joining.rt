@@ -142,7 +142,8 @@ fn joined_in(
     let mut hints = no_hints(alloc, barriers.edges.len())?;
     let mut tried = Vec::new(alloc);
     for step in 0..inner.len() {
-        let Some(bridge) = first_bridge(view, &current, &holes, &tried, &barriers, &mut hints) else {
+        let Some(bridge) = first_bridge(view, &current, &holes, &tried, &barriers, &mut hints)
+        else {
             return Ok(None);
         };
         let hole = holes.remove(bridge.hole);
