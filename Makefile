@@ -30,7 +30,7 @@ DIRECTORY_OF_api := api_check
 
 # The rows of tests/serve that the gate runs: all but those that take long.
 SERVE_ROWS := words pipelined interleaved clashes curl slow cut refused_at_once end_by_links end_by_signal \
-	umlauts dates sources idle turns workers pages crowds
+	umlauts dates sources idle turns workers pages crowds given
 
 .PHONY: try build replay serve check lint tests hostile cases crate program
 .PHONY: $(BESIDE:%=check-%) convert view deb

@@ -172,7 +172,9 @@ def read_api(text: str) -> ApiText:
             _one_table(section, table, api)
         for match in CODE.finditer(section.text):
             if match[1]:
-                _add_code(api, match[2], match[3], int(match[1]), set())
+                behind = re.match(r", with the members? [^.;:]*", section.text[match.end() :])
+                members = _members(behind[0]) if behind else set()
+                _add_code(api, match[2], match[3], int(match[1]), members)
                 api.codes_of_section.setdefault("everywhere", set()).add(match[2])
         if memory := re.search(r"`503 (M1) (\w+)`", section.text):
             _add_code(api, memory[1], memory[2], 503, set())

@@ -58,12 +58,12 @@ INPUTS: dict[str, Callable[[], bytes]] = {
         faces_with_voids(windows(100, 300, 3), 200)
     ),
     "8,000 faces of 16 corners with a hole": lambda: upload(
-        faces_with_voids(windows(8, 1, 8), 8000)
-    ),
-    "a face of 20 rings within one another, listed 10 times": lambda: upload(
-        listed_voids(rings(20), 10)
+        faces_with_voids(windows(8, 1, 8, 2000), 8000)
     ),
     "a face of 83 rings within one another": lambda: upload(listed_voids(rings(83), 1)),
+    "a face of 83 rings within one another, listed 4 times": lambda: upload(
+        listed_voids(rings(83), 4)
+    ),
     "one comb, shared by 1,000 pipes": lambda: upload(polygons(comb(), 1, 1, 1000)),
     "a set mapped 1,000,000 times": lambda: upload(mapped(1000000)),
     "1,000 sets over a list of 100,000 points": lambda: upload(sharing(1000, 100000)),

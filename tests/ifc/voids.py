@@ -15,12 +15,12 @@ def round_loop(centre: tuple[int, int], radius: int, corners: int) -> Flat:
     return [(x + round(radius * math.cos(t)), y + round(radius * math.sin(t))) for t in turns]
 
 
-def windows(outer: int, holes: int, corners: int) -> Loops:
+def windows(outer: int, holes: int, corners: int, reach: int = 40_000) -> Loops:
     """A round face of so many corners, with so many holes in rows, each of so many corners."""
-    side = math.ceil(math.sqrt(holes))
-    places = [round(-20_000 + 40_000 * n / max(side - 1, 1)) for n in range(side)]
+    side, radius = math.ceil(math.sqrt(holes)), reach // 80
+    places = [round(reach * (n / max(side - 1, 1) - 0.5)) for n in range(side)]
     centres = [(x, y) for y in places for x in places][:holes]
-    return [round_loop((0, 0), 40_000, outer), *(round_loop(c, 500, corners) for c in centres)]
+    return [round_loop((0, 0), reach, outer), *(round_loop(c, radius, corners) for c in centres)]
 
 
 def ring(reach: int, to_right: bool) -> Flat:

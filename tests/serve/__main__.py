@@ -14,6 +14,7 @@ from functools import partial
 
 from tests.serve.edges import crowds, dates, idle, pages, sources, turns, umlauts, workers
 from tests.serve.ends import end_by_links, end_by_signal, words
+from tests.serve.given import given
 from tests.serve.many import clashes, curl, interleaved, many_clients, pipelined
 from tests.serve.slow import cut, never_reads, refused_at_once, silent, slow
 from tests.serve.streams import cases
@@ -41,6 +42,7 @@ ALL: list[Callable[[str], str]] = [
     workers,
     pages,
     crowds,
+    given,
     silent,
 ]
 ROWS = {row.__name__: row for row in ALL}

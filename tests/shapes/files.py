@@ -19,6 +19,7 @@ from tests.ifc.crowds import (
 )
 from tests.ifc.polygons import comb, combs, convex, listed_faces, loop, polygons, strip
 from tests.ifc.solids import boxes, boxes_at, heap
+from tests.ifc.voids import faces_with_voids, listed_voids, rings, windows
 from tests.support.http import coord_of, request, rules, topics_of
 
 MODEL = f"{coord_of()}/models/m"
@@ -165,6 +166,12 @@ FILES = [
     Shape("a comb, listed 20 times", 700, lambda: upload(polygons(comb(), 1, 20))),
     Shape("a winding strip, listed 20 times", 300, lambda: upload(polygons(strip(), 1, 20))),
     Shape("a convex face, listed 200 times", 150, lambda: upload(polygons(convex(), 1, 200))),
+    Shape(
+        "20 faces of 1,000 corners in 50 holes",
+        35,
+        lambda: upload(faces_with_voids(windows(800, 50, 4), 20)),
+    ),
+    Shape("a face of 20 rings, listed 5 times", 1500, lambda: upload(listed_voids(rings(20), 5))),
     Shape("a comb, shared by 900 pipes", 150, lambda: upload(polygons(comb(), 1, 1, 900))),
     Shape("1,000 sets over a list of 50,000 points", 4, lambda: upload(sharing(1000, 50_000))),
     Shape(

@@ -63,9 +63,10 @@ class Client:
         user: str | None = None,
         pieces: int | None = None,
         last: bool = False,
+        given: int | None = None,
     ) -> Exchange:
         """Sends a request, in pieces of so many bytes where that is given, and reads its reply."""
-        it = Exchange(method, target, body, user)
+        it = Exchange(method, target, body, user, given=given)
         data = it.bytes_of(last)
         it.sent = time.monotonic()
         if pieces is None:

@@ -41,10 +41,12 @@ class Exchange:
     turn: int | None = None
     close: bool = False
     shelved: bool = False
+    given: int | None = None
 
     def bytes_of(self, last: bool = False) -> bytes:
         head = f"{self.method} {self.target} HTTP/1.1\r\nHost: h\r\n"
         head += f"X-User: {self.user}\r\n" if self.user else ""
+        head += f"X-Book-Turn: {self.given}\r\n" if self.given is not None else ""
         head += "Connection: close\r\n" if last else ""
         body = self.body or b""
         head += f"Content-Length: {len(body)}\r\n" if self.body is not None else ""

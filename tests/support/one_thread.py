@@ -8,6 +8,7 @@ on beside the connections, so of what is left to be checked only the bounds are 
 import json
 import re
 import subprocess
+from dataclasses import replace
 
 from tests.support.checks import expect
 from tests.support.http import (
@@ -25,8 +26,9 @@ Log = list[Exchange]
 
 
 def replay(program: str, projects: int, words: list[str], requests: Log) -> list[Response]:
-    """The replies of one thread to these requests, in their order."""
-    data = b"".join(it.bytes_of() for it in requests)
+    """The replies of one thread to these requests, in their order. They give no turn there, since
+    its turns are others."""
+    data = b"".join(replace(it, given=None).bytes_of() for it in requests)
     command = [program, "replay", "--at", str(MOMENT), "--projects", str(projects), *words]
     run = subprocess.run(command, input=data, stdout=subprocess.PIPE, check=False)
     expect(run.returncode == 0, f"the replay ended with {run.returncode}")
@@ -43,14 +45,16 @@ def replay(program: str, projects: int, words: list[str], requests: Log) -> list
 
 
 def find_shelved(log: Log) -> None:
-    """Which replies of a connection are of clashes that it was answered before: these print the
-    turn that was printed last, and the others a later one."""
+    """Which replies of a connection are of clashes that it was answered before, to requests that
+    give no turn above the one that was printed last: these print that one, and the others a later
+    one."""
     printed, shelf = 0, set()
     for it in log:
         if it.turn is None:
             continue
         asked = CLASHES.match(it.target) if it.method == "GET" and it.status == 200 else None
-        it.shelved = asked is not None and (asked[1], asked[2]) in shelf
+        is_kept = asked is not None and (asked[1], asked[2]) in shelf
+        it.shelved = is_kept and (it.given or 0) <= printed
         if it.shelved:
             expect(
                 it.turn == printed,

@@ -4,10 +4,10 @@ use Rattle.bcf_http.proofs.asked.asked_of.Goals as goal
 
 pub returns-clause-asked : goal.returns-clause-asked
 unfolding asked_by
-returns-clause-asked c = c.with_turn.ensures (asked_without_turn c.args.moment c.args.request) c.asked_without_turn.ensures.asked
+returns-clause-asked c = c.with_turn.ensures (asked_without_turn c.args.moment c.args.request) c.asked_without_turn-asked.ensures.asked
 
 pub returns-clause-none : goal.returns-clause-none
 unfolding asked_by
 returns-clause-none c =
     asked_none c.args.moment c.args.request c.with_turn.result
-    (c.with_turn.ensures (asked_without_turn c.args.moment c.args.request) c.asked_without_turn.ensures.asked)
+    (c.with_turn.ensures (asked_without_turn c.args.moment c.args.request) c.asked_without_turn-asked.ensures.asked)
