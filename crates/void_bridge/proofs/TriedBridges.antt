@@ -1,6 +1,6 @@
 -- A bridge that isn't free stays so: what is known of bridges, once a loop is put into the list.
 use Rattle.std.proofs.Common.{◌≡◌, ◌∙◌, ap, sym, refl, subst, ℕ, zero, suc, ◌+◌, ◌-◌, ◌<◌, ◌≤◌, Bool, true, false, not, ◌&&◌, ◌||◌, cond, inl, inr, List, [], ◌∷◌, ◌++◌, append_assoc, length, take, drop, Option, Some, None, arith}
-use Rattle.std.specs.Prelude.{slice_index_or, remove, ◌==◌}
+use Rattle.std.specs.Prelude.{slice_index_or, remove}
 use Rattle.std.specs.List.{list_any}
 use Rattle.std.specs.Option.{option_map}
 use Rattle.std.proofs.lemmas.Bool.{cases_lt}

@@ -130,8 +130,8 @@ pub fn first_bridge(
     requires current_in { AreInGrid current.now }
     requires holes_in { All AreInGrid (map (λ hole. hole.items) holes.now) }
     requires kept { AreBarriers barriers.now }
-    requires tried { AreTried view (segments_of barriers.now) current.now (map (λ hole. hole.items) holes.now)
-        tried.now }
+    requires tried { AreTried view (segments_of barriers.now) current.now
+        (map (λ hole. hole.items) holes.now) tried.now }
     ensures passed { IfSome result (λ b. ArePassed view (segments_of barriers.now) current.now
         (map (λ hole. hole.items) holes.now) b.hole) }
     ensures first { result

@@ -42,7 +42,7 @@ fn count_of(tried: &[usize], from: usize, more: usize, taken: usize, m: usize) -
     count_without(count_at(tried, m - more), taken)
 }
 
-/// The numbers of so many corners of that list.
+/// The numbers of so many corners of that list. None are kept if none were before and the first loop is taken out: all would be 0.
 pub fn counts_after(
     alloc: Global,
     tried: &[usize],
@@ -53,6 +53,9 @@ pub fn counts_after(
 ) -> Result<Vec<usize>, AllocError>
     ensures { IfOk result (λ made. WereTried tried.now from more taken made.items) }
 {
+    if taken == 0 && tried.is_empty() {
+        return Ok(Vec::new(alloc));
+    }
     let mut made = Vec::with_capacity(alloc, count)?;
     for m in 0..count {
         made.push(count_of(tried, from, more, taken, m))?;

@@ -1,5 +1,6 @@
 mod EarRows
 mod FacesNamed
+mod FacesAgain
 pub mod IndexesNamed
 mod Pooled
 mod RingsRead

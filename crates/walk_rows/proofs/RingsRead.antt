@@ -1,6 +1,6 @@
 -- The loops of a face that were read, one more.
 use Rattle.std.proofs.Common.{◌≡◌, ℕ, ◌+◌, ◌<◌, ◌≤◌, List, [], ◌∷◌, ◌++◌, append_assoc, length, map, take, get_or, Option, Vec, Global, sym, ap, ◌∙◌, subst, arith}
-use Rattle.std.specs.List.{All, AllZip, flat_map}
+use Rattle.std.specs.List.{All, AllZip}
 use Rattle.std.proofs.lemmas.List.{length-append, map-append, append-nil, take_more}
 use Rattle.std.proofs.lemmas.List.Elements.{All-push}
 use Rattle.std.proofs.lemmas.List.Concat.{flat_map-append}

@@ -1,7 +1,6 @@
 -- Short numbers that are indexes, one by one and in rows.
 use Rattle.std.proofs.Common.{◌≡◌, ℕ, List, [], ◌∷◌, ◌++◌, Option, Some, None, sym, ap, ◌∙◌, append_assoc}
 use Rattle.std.specs.Prelude.{IfSome}
-use Rattle.bim_text.specs.declared.short.Short.{Short}
 use Rattle.p21_values.specs.declared.value.Value21.{Value21}
 use Rattle.walk_rows.specs.declared.triangle_rows.Row.{Row}
 use Rattle.walk_rows.specs.Rows.{AreNumbers, IsRowOf}

@@ -1,16 +1,18 @@
 //! The triangles of faces, as rows (IFC4 ADD2 TC1, IfcPolygonalFaceSet, IfcIndexedPolygonalFace,
 //! IfcIndexedPolygonalFaceWithVoids).
-ghost use Rattle.std.specs.Prelude.{◌≡◌, ◌<◌, ◌≤◌, ◌+◌, ◌^◌, ◌++◌, ◌∷◌, [], List, Option, Some, All, length, map, IfOk, IfSome, OnOk, option_copied};
+ghost use Rattle.std.specs.Prelude.{◌≡◌, ◌<◌, ◌≤◌, ◌+◌, ◌^◌, ◌++◌, ◌∷◌, [], List, Option, Some, All, length, map, drop, IfOk, IfSome, OnOk, option_copied};
 ghost use Rattle.std.specs.Bool.{OnTrue};
 ghost use Rattle.std.specs.List.{AllZip, flat_map};
 ghost use Rattle.bim_model.specs.Points.{IsGridPoint};
 ghost use Rattle.p21_values.specs.declared.value.Value21.{Value21};
 ghost use Rattle.p21_values.specs.Attributes.{items_in, led_to};
+ghost use Rattle.p21_values.specs.Values.{reference_of};
 ghost use Rattle.ear_cut.specs.Areas.{point_at};
 ghost use Rattle.faceset.specs.FacePolygons.{ears_of};
 ghost use Rattle.faceset.specs.FaceSets.{NamesPoint, IsCut, Joined, most_corners};
 ghost use Rattle.walk_rows.specs.Rows.{AreNumbers, AddsRows, place_at, row_at, triangles_at};
 ghost use Rattle.walk_rows.specs.SetRows.{LeadsToFace};
+ghost use Rattle.walk_rows.specs.declared.face_rows.LastFace.{LastFace};
 ghost use Rattle.walk_rows.specs.inner.LoopRows.{AreRings, NamesLoops, HasRings, inner_of};
 
 use crate::row_places::place_named;
@@ -277,7 +279,82 @@ fn add_face_of(
     }
 }
 
+/// The face that was read last: its number, and where its rows begin.
+#[derive(Clone, Copy)]
+pub struct LastFace {
+    pub id: u64,
+    pub first: usize,
+}
+
+/// The face that a value refers to, whose rows begin there.
+fn last_of(value: &ValueRef<'_>, first: usize) -> Option<LastFace>
+    ensures { IfSome result (λ last. (reference_of value.now ≡ Some last.id) × (last.first ≡ first)) }
+{
+    match value.reference() {
+        Some(id) => Some(LastFace { id, first }),
+        None => None,
+    }
+}
+
+/// Where among so many rows those of the face begin that a value refers to, if it was read last.
+fn first_again(value: &ValueRef<'_>, last: Option<LastFace>, count: usize) -> Option<usize>
+    ensures of { IfSome result (λ first. (face : LastFace) × (last ≡ Some face)
+        × (reference_of value.now ≡ Some face.id) × (face.first ≡ first)) }
+    ensures within { IfSome result (λ first. first ≤ count) }
+{
+    match (value.reference(), last) {
+        (Some(id), Some(face)) if id == face.id && face.first <= count => Some(face.first),
+        _ => None,
+    }
+}
+
+/// Adds the rows from an index on once more.
+fn add_again(alloc: Global, first: usize, rows: &mut Vec<Row>) -> Result<(), AllocError>
+    requires { first ≤ length rows.old.items }
+    ensures { OnOk result (rows.new.items ≡ rows.old.items ++ drop first rows.old.items) }
+{
+    let mut again = Vec::new(alloc);
+    again.extend_from_slice(&rows[first..])?;
+    rows.extend_from_slice(&again)?;
+    Ok(())
+}
+
+/// Adds the rows of the face that a value refers to. If it was read last, its rows are taken again.
+fn add_listed(
+    alloc: Global,
+    exchange: &Exchange,
+    value: &ValueRef<'_>,
+    numbers: Option<&[u32]>,
+    points: &[Point],
+    last: Option<LastFace>,
+    rows: &mut Vec<Row>,
+) -> Result<bool, AllocError>
+    requires few { length points.now < 2 ^ 32 }
+    requires in_grid { All IsGridPoint points.now }
+    requires rows { IfSome last (λ face. (v : Value21) → reference_of v ≡ Some face.id
+        → (names : Option (List Value21)) → AreNumbers (length points.now) names (option_copied numbers)
+        → Joined (IsCut names points.now) (led_to exchange.now (v ∷ []))
+        (triangles_at points.now (drop face.first rows.old.items))) }
+    requires leads { IfSome last (λ face. (v : Value21) → reference_of v ≡ Some face.id
+        → LeadsToFace exchange.now v) }
+    ensures rows { (names : Option (List Value21))
+        → AreNumbers (length points.now) names (option_copied numbers.entry)
+        → IfOk result (λ added. OnTrue added (AddsRows points.now
+        (Joined (IsCut names points.now) (led_to exchange.now (value.now ∷ [])))
+        rows.old.items rows.new.items)) }
+    ensures leads { IfOk result (λ added. OnTrue added (LeadsToFace exchange.now value.now)) }
+{
+    match first_again(value, last, rows.len()) {
+        Some(first) => {
+            add_again(alloc, first, rows)?;
+            Ok(true)
+        }
+        None => add_face_of(alloc, exchange, value, numbers, points, rows),
+    }
+}
+
 /// The rows of the faces that values refer to, one face after another, at most so many. None where one isn't cut.
+/// A face that comes several times in a row is cut once.
 pub fn rows_of_faces(
     alloc: Global,
     exchange: &Exchange,
@@ -295,11 +372,14 @@ pub fn rows_of_faces(
     ensures leads { IfOk result (λ found. IfSome found (λ rows. All (LeadsToFace exchange.now) values.now)) }
 {
     let mut rows = Vec::new(alloc);
+    let mut last = None;
     for value in values.iter() {
-        let added = add_face_of(alloc, exchange, &value, numbers, points, &mut rows)?;
+        let first = rows.len();
+        let added = add_listed(alloc, exchange, &value, numbers, points, last, &mut rows)?;
         if !added || rows.len() > most {
             return Ok(None);
         }
+        last = last_of(&value, first);
     }
     Ok(Some(rows))
 }

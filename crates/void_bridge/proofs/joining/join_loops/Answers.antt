@@ -1,4 +1,4 @@
-use Rattle.std.proofs.Common.{◌≡◌, Some, length, map, Vec, Global, arith}
+use Rattle.std.proofs.Common.{◌≡◌, Some, map, Vec, Global, arith}
 use Rattle.std.proofs.lemmas.List.{length-map}
 use Rattle.bim_model.specs.declared.geometry.Point.{Point}
 use Rattle.void_bridge.specs.Bridges.{joined_of}

@@ -92,7 +92,7 @@ loop-step-preserved c =
       framed = c.in_ok-add_bridge.ensures.framed;
       tried = tried_bridged view edges (segments_of c.add_bridge.new.barriers) current (items_of holes) b hole c.in_ok-current-2.current.items (items_of c.remove-hole.new.self.items) c.loop-step.tried.items c.in_ok-tried.tried.items
           (segment (spot_of view c.index.result.now) (spot_of view c.index-in-loop-step.result.now)) (segment (spot_of view c.index-in-loop-step.result.now) (spot_of view c.index.result.now)) (c.len-more.result + 2) w c.loop-step.invariant.tried
-          passed e made left (ap (λ (n : ℕ). n + 2) c.len-more.ensures) c.in_ok-add_bridge.ensures.edges
+          passed e made left (omega (arith, c.len-more.ensures, c.remove-hole.result.ok.0)) c.in_ok-add_bridge.ensures.edges
           (subst (λ (ns : List ℕ). WereTried ns b.from (c.len-more.result + 2) b.hole c.in_ok-tried.tried.items) c.deref-in-loop-step-6.ensures.value c.in_ok-tried.ensures);
       joining = joining_bridged view (joined_in view c.args.outer.now inner) (n - k) (n - (k + 1)) current (items_of holes) edges b hole c.in_ok-current-2.current.items (items_of c.remove-hole.new.self.items) (segments_of c.add_bridge.new.barriers)
           (spot_of view c.index.result.now) (spot_of view c.index-in-loop-step.result.now) c.loop-step.invariant.joining (to_come n k c.loop-step-test.true) w

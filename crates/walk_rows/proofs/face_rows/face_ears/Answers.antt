@@ -1,4 +1,4 @@
-use Rattle.std.proofs.Common.{◌≡◌, ◌+◌, ◌≤◌, List, length, map, Some, ap, sym, ◌∙◌, subst, Vec, Global, ℕ}
+use Rattle.std.proofs.Common.{◌+◌, ◌≤◌, List, length, map, ap, sym, ◌∙◌, subst, Vec, Global, ℕ}
 use Rattle.bim_model.specs.declared.geometry.Point.{Point}
 use Rattle.ear_cut.specs.Areas.{point_at}
 use Rattle.void_bridge.specs.HoleLoops.{IsLoop, AreLoops, corner_count}

@@ -1,7 +1,6 @@
-use Rattle.std.proofs.Common.{List, ℕ, length, subst, arith}
+use Rattle.std.proofs.Common.{List, subst, arith}
 use Rattle.std.specs.List.{AllZip}
 use Rattle.p21_values.specs.declared.value.Value21.{Value21}
-use Rattle.p21_values.specs.Attributes.{items_in}
 use Rattle.faceset.specs.FaceSets.{NamesPoint}
 use Rattle.walk_rows.proofs.RingsRead.{named_more, rings_more, total_more}
 use Rattle.walk_rows.proofs.face_rows.inner_places.Goals as goal

@@ -1,6 +1,4 @@
-use Rattle.std.proofs.Common.{List, Vec, ℕ, Global, map, take_all, ap, ◌∙◌, arith}
-use Rattle.ear_cut.specs.Areas.{point_at}
-use Rattle.walk_rows.proofs.RingsRead.{items_of, rings_added}
+use Rattle.walk_rows.proofs.RingsRead.{rings_added}
 use Rattle.walk_rows.proofs.face_rows.rings_at.Goals as goal
 
 pub loop-ring-preserved : goal.loop-ring-preserved
