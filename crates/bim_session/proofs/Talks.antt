@@ -1,5 +1,5 @@
 -- From what the framer and the parts of a talk answer to what a talk wants.
-use Rattle.std.proofs.Common.{◌≡◌, ◌⊎◌, ℕ, ◌+◌, ◌≤◌, length, arith, Bool, true, false, List, [], ◌∷◌, Option, Some, None, Result, Ok, Err, IfOk, IfSome, OnOk, OnErr, inl, inr, refl, sym, ap, ◌∙◌, subst}
+use Rattle.std.proofs.Common.{◌≡◌, ◌⊎◌, ℕ, ◌+◌, ◌≤◌, length, arith, Bool, true, false, List, [], ◌∷◌, Option, Some, None, Result, Ok, Err, IfOk, OnOk, OnErr, inl, inr, refl, sym, ap, ◌∙◌, subst}
 use Rattle.std.specs.declared.alloc.AllocError.{AllocError}
 use Rattle.http_frame.specs.declared.types.HttpRequest.{HttpRequest}
 use Rattle.http_frame.specs.declared.types.FrameFault.{FrameFault}
@@ -9,8 +9,6 @@ use Rattle.http_frame.specs.declared.framer.Framer.{Framer}
 use Rattle.http_frame.specs.Framers.{Stands, Answered}
 use Rattle.bim_io.specs.StreamViews.{ClockSeen, ClockGives}
 use Rattle.bim_io.proofs.Calls.{clock_none}
-use Rattle.book_turn.specs.declared.call_fault.CallFault.{CallFault}
-use Rattle.book_turn.specs.declared.call_fault.CallFault.TheVariants as call_fault
 use Rattle.bcf_http.specs.declared.reply_kind.ReplyKind.{ReplyKind}
 use Rattle.book_history.specs.declared.requests.BookCall.{BookCall}
 use Rattle.book_history.specs.declared.replies.BookReply.{BookReply}
@@ -26,7 +24,7 @@ use Rattle.bim_session.specs.declared.want.Want.TheVariants.{More, Write, Call, 
 use Rattle.bim_session.specs.declared.notes.Notes.{Notes}
 use Rattle.bim_session.specs.ShelfNotes.{project_read, IsKeptReply}
 use Rattle.bim_session.specs.Session.{closes_after, continue_bytes, Means, Lists, IsFaultResponse}
-use Rattle.bim_session.specs.Talking.{TalkState, IsOwnEnd, IsOwnLeaving, IsOwnWant, GrowsBy, Feeds, is_end, Wants, StopsNext, TakesRequest, Writes, WantsFor, AtRest, AsksFor, waiting_for, waiting_alone, waiting_on, with_answer, with_call, with_fault, with_framer, asks_change, IsUnasked, AnswersAlone, BookReceipt, LeavesCall, Replies}
+use Rattle.bim_session.specs.Talking.{TalkState, IsOwnEnd, IsOwnLeaving, IsOwnWant, GrowsBy, Feeds, is_end, Wants, StopsNext, TakesRequest, Writes, WantsFor, AtRest, AsksFor, waiting_for, waiting_alone, waiting_on, with_answer, with_call, with_fault, with_framer, asks_change, IsUnasked, AnswersAlone}
 
 pub none_of : (o : Option SessionEnd) → ((e : SessionEnd) → o ≡ Some e → ⊥) → o ≡ None
 none_of None not_some = refl
@@ -263,32 +261,6 @@ asks_kept waiting call old new notes kept (Ok want) same is writes state =
     kept_write waiting call old new kept want (subst (λ (n : Notes). IsKeptReply n call kept) same is)
     (subst (λ (n : Notes). Writes (IsResponse (answer.Book kept) waiting.kind (Some n.turn) waiting.close) want) same writes) state
 asks_kept waiting call old new notes kept (Err e) same is writes state = tt
-
--- ---- the answer to a call
-
--- the same talk, where this waits of a request
-abbrev pub with_waits : Option Waiting → TalkState → TalkState
-with_waits waits s = record s { waits = waits }
-
-leaves_as_before : (receipt : Result BookReceipt CallFault) (old new : TalkState) (e : SessionEnd) → LeavesCall receipt (with_waits None old) e new → LeavesCall receipt old e new
-leaves_as_before (Ok receipt) old new e leaves = leaves
-leaves_as_before (Err call_fault.Memory) old new e leaves = leaves
-leaves_as_before (Err (call_fault.PassSpent pass)) old new e leaves = leaves
-
-replies_as_before : (receipt : Result BookReceipt CallFault) (waiting : Waiting) (old new : TalkState) (want : Want) → Replies receipt waiting (with_waits None old) want new
-    → Replies receipt waiting old want new
-replies_as_before receipt waiting old new More replies = absurd replies
-replies_as_before receipt waiting old new (Write bytes) replies = replies
-replies_as_before receipt waiting old new (Call call) replies = absurd replies
-replies_as_before receipt waiting old new (Leave e) replies = leaves_as_before receipt old new e replies
-
--- what waits is taken out first
-pub replies_taken : (receipt : Result BookReceipt CallFault) (waiting : Waiting) (left : Option Waiting) (old new : TalkState) (result : Result Want AllocError) → old.waits ≡ Some waiting
-    → left ≡ None → IfOk result (λ want. Replies receipt waiting (with_waits left old) want new) → IfOk result (λ want. IfSome old.waits (λ w. Replies receipt w old want new))
-replies_taken receipt waiting left old new (Ok want) is none replies =
-    let taken : Replies receipt waiting (with_waits None old) want new = subst (λ (o : Option Waiting). Replies receipt waiting (with_waits o old) want new) none replies in
-    subst (λ (o : Option Waiting). IfSome o (λ w. Replies receipt w old want new)) (sym is) (replies_as_before receipt waiting old new want taken)
-replies_taken receipt waiting left old new (Err e) is none replies = tt
 
 -- ---- out of memory
 
