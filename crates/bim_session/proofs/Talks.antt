@@ -153,7 +153,7 @@ requested old new f m r (Call call) a b here steps gives wants = λ rest told st
             wants.2.0,
             wants.2.1,
             wants.2.2
-              ∙ ap (λ (g : Framer). with_call (waiting_for r (old.served + 1) (asks_change call.request) (project_read call.request) wants.2.0) (with_framer g old)) (sym same),
+                ∙ ap (λ (g : Framer). with_call (waiting_for r (old.served + 1) (asks_change call.request) (project_read call.request) wants.2.0) (with_framer g old)) (sym same),
           ),
         ),
       ),

@@ -479,7 +479,13 @@ fn fault_of(listing: Result<Listing, Refusal>) -> Option<RequestFault> {
 fn list_fault(alloc: Global, target: &str) -> Result<Option<RequestFault>, Fail> {
     let (_, asked) = asked_above(alloc, TurnField::Bad, ("GET", target, ""))?;
     match asked {
-        Ok(Action::AskList { asked, bad_turn, .. }) => {
+        Ok(
+            Action::AskList {
+                asked,
+                bad_turn,
+                ..
+            },
+        ) => {
             let fault = fault_of(listing_of(alloc, &asked, bad_turn));
             drop(asked);
             Ok(fault)
