@@ -4,6 +4,7 @@
 sample.py arch|mep|mep-next prints one. `arch` is an office of three storeys, `mep` its ducts and pipes,
 and `mep-next` the next revision of those: the duct of the first floor is lower, a riser is moved, a branch is added.
 """
+import argparse
 import hashlib
 import math
 import sys
@@ -260,10 +261,9 @@ def mep(later: bool) -> str:
 def main() -> int:
     """Prints the file that is named."""
     made = {"arch": arch, "mep": lambda: mep(False), "mep-next": lambda: mep(True)}
-    if len(sys.argv) != 2 or sys.argv[1] not in made:
-        print("sample.py arch|mep|mep-next", file=sys.stderr)
-        return 2
-    sys.stdout.write(made[sys.argv[1]]())
+    parser = argparse.ArgumentParser(description=__doc__)
+    parser.add_argument("file", choices=made)
+    sys.stdout.write(made[parser.parse_args().file]())
     return 0
 
 
