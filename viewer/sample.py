@@ -8,6 +8,7 @@ import argparse
 import hashlib
 import math
 import sys
+from collections.abc import Callable
 
 BAYS = 4
 BAY = 6000
@@ -260,7 +261,7 @@ def mep(later: bool) -> str:
 
 def main() -> int:
     """Prints the file that is named."""
-    made = {"arch": arch, "mep": lambda: mep(False), "mep-next": lambda: mep(True)}
+    made: dict[str, Callable[[], str]] = {"arch": arch, "mep": lambda: mep(False), "mep-next": lambda: mep(True)}
     parser = argparse.ArgumentParser(description=__doc__)
     parser.add_argument("file", choices=made)
     sys.stdout.write(made[parser.parse_args().file]())
