@@ -1,8 +1,9 @@
 """Shows that the pages lead where they say: python3 -m lint.pages. Prints each link of README.md,
 CONTRIBUTING.md, CHANGELOG.md, docs/ and the READMEs of folders whose file or heading isn't there;
-each file that a page names between backticks and that isn't in the repository; each place that says
-another number of cases than there are; and that README.md has more than 150 lines, or a paragraph
-of more than six, if it has. Exit status 1 if there is any.
+each file that a page names between backticks and that isn't in the repository; each name that a
+page says is in such a file and that isn't there; each place that says another number of cases than
+there are; and that README.md has more than 150 lines, or a paragraph of more than six, if it has.
+Exit status 1 if there is any.
 """
 
 import os
@@ -18,6 +19,8 @@ FOLDERS = ("bench", "cases", "tests", "lint", "deploy", "api_check")
 MOST_LINES = 150
 MOST_IN_A_PARAGRAPH = 6
 FILE = re.compile(r"`([\w./-]+\.(?:rt|antt|edit|md|py|sh))`")
+# A name and the file that has it, as in "`rule_of` in `crates/bim_model/specs/Rules.antt`".
+NAMED = re.compile(r"`([\w:]+)` in\s`(crates/[\w/]+\.(?:rt|antt))`")
 # Named as an example or as what is to come, and not as a file that is there.
 NO_FILES = {"docs/crates/NAME.md", "tests.rt", "filter_tests.rt"}
 # Where pages say how many cases there are, and below which folder.
@@ -60,6 +63,14 @@ def missing_files(page: str, files: list[str]) -> Iterator[str]:
     for name in sorted(set(FILE.findall(text_of(page))) - NO_FILES):
         if not name.startswith("/") and not any(path.endswith(f"/{name}") for path in files):
             yield f"{page}: {name} isn't there"
+
+
+def missing_names(page: str) -> Iterator[str]:
+    """The names that a page says are in a file of a crate, and that aren't."""
+    for name, path in NAMED.findall(text_of(page)):
+        last = name.split("::")[-1]
+        if not os.path.isfile(os.path.join(TOP, path)) or last not in text_of(path):
+            yield f"{page}: {path} has no {name}"
 
 
 def wrong_counts(files: list[str]) -> Iterator[str]:
@@ -108,6 +119,7 @@ def main() -> int:
     files = all_files()
     found = [what for page in pages for what in broken_links(page)]
     found += [what for page in pages for what in missing_files(page, files)]
+    found += [what for page in pages for what in missing_names(page)]
     found += [*wrong_counts(files), *too_long("README.md")]
     for what in found:
         print(what)
