@@ -21,6 +21,8 @@ PLAINER = {
     r"but for": "except",
     r"passed over": "ignored",
     r"where memory is": "if memory is",
+    r"stands? (?:behind|there|before)": "comes after, is there, comes before",
+    r"fronts of|a front of (?:it|what|the list)": "a prefix of",
 }
 
 
