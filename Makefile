@@ -103,8 +103,9 @@ $(BESIDE:%=check-%): check-%: program
 convert:
 	@command -v cargo >/dev/null || { echo "make: there is no cargo: apt-get install cargo"; exit 2; }
 	cd convert && cargo build --release --offline
-	@$(MAKE) --no-print-directory -C convert/mesh && cp convert/mesh/mesh2grid convert/target/release/ \
-		|| echo "make: without mesh2grid, the tool for meshes: apt-get install g++ libassimp-dev"
+	@if echo '#include <assimp/Importer.hpp>' | g++ -E -x c++ - >/dev/null 2>&1; then \
+		$(MAKE) --no-print-directory -C convert/mesh && cp convert/mesh/mesh2grid convert/target/release/; \
+	else echo "make: without mesh2grid, the tool for meshes: apt-get install g++ libassimp-dev"; fi
 
 view: program
 	@viewer/view.sh $(PROGRAM)

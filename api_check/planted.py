@@ -5,6 +5,7 @@
 
 from __future__ import annotations
 
+import argparse
 import copy
 import itertools
 import re
@@ -352,12 +353,15 @@ def plant_live(report: Report, document: Document, program: str) -> None:
 
 def main() -> int:
     """Plants all, and returns the exit status."""
+    parser = argparse.ArgumentParser(description=__doc__)
+    parser.add_argument("program", nargs="?", help="also plants in what this program answers")
+    program = parser.parse_args().program
     report = Report()
     document = Document.read(DOCUMENT)
     plant_texts(report, document)
-    if len(sys.argv) > 1:
+    if program:
         try:
-            plant_live(report, document, sys.argv[1])
+            plant_live(report, document, program)
         except (NotReady, CutOff, OSError) as why:
             report.add("the program answers", [str(why)])
     return report.end()

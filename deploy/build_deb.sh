@@ -58,6 +58,12 @@ lay_out_server() {
     for page in README.md docs/API.md docs/LIMITS.md docs/SECURITY.md docs/OPERATIONS.md; do
         if [ -f "$ROOT/$page" ]; then cp "$ROOT/$page" "$TREE/doc/"; else note "$page isn't there: left out"; fi
     done
+    # a build with memory checks, as make try's, needs more address space than the unit allows
+    if grep -aq AddressSanitizer "$PROGRAM"; then
+        note "the program has memory checks: the unit's LimitAS is lifted"
+        mkdir -p "$FILES/lib/systemd/system/yulfrets.service.d"
+        printf '[Service]\nLimitAS=infinity\n' >"$FILES/lib/systemd/system/yulfrets.service.d/checked.conf"
+    fi
     if [ -f "$ROOT/docs/openapi.yaml" ]; then install -D -m 644 "$ROOT/docs/openapi.yaml" "$share/openapi.yaml"; fi
 }
 

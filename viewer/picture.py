@@ -1,5 +1,6 @@
 #!/usr/bin/python3
 """picture.py PROGRAM OUT.png: the page as a coordinator sees it, a new clash chosen, for README."""
+import argparse
 import io
 import sys
 from pathlib import Path
@@ -33,17 +34,18 @@ def take(case: Case) -> bytes:
 
 def main() -> int:
     """Writes the picture."""
-    if len(sys.argv) != 3:
-        print("picture.py PROGRAM OUT.png", file=sys.stderr)
-        return 2
+    parser = argparse.ArgumentParser(description=__doc__)
+    parser.add_argument("program")
+    parser.add_argument("out", type=Path)
+    words = parser.parse_args()
     case = None
     try:
-        case = Case(sys.argv[1], False)
+        case = Case(words.program, False)
         data = take(case)
         if len(data) > MOST:
             raise Failure(f"the picture has {len(data)} bytes, more than {MOST}")
-        Path(sys.argv[2]).write_bytes(data)
-        print(f"{sys.argv[2]}: {len(data)} bytes")
+        words.out.write_bytes(data)
+        print(f"{words.out}: {len(data)} bytes")
         return 0
     except Failure as failure:
         print(f"picture: {failure}", file=sys.stderr)

@@ -4,9 +4,11 @@
 sample.py arch|mep|mep-next prints one. `arch` is an office of three storeys, `mep` its ducts and pipes,
 and `mep-next` the next revision of those: the duct of the first floor is lower, a riser is moved, a branch is added.
 """
+import argparse
 import hashlib
 import math
 import sys
+from collections.abc import Callable
 
 BAYS = 4
 BAY = 6000
@@ -259,11 +261,10 @@ def mep(later: bool) -> str:
 
 def main() -> int:
     """Prints the file that is named."""
-    made = {"arch": arch, "mep": lambda: mep(False), "mep-next": lambda: mep(True)}
-    if len(sys.argv) != 2 or sys.argv[1] not in made:
-        print("sample.py arch|mep|mep-next", file=sys.stderr)
-        return 2
-    sys.stdout.write(made[sys.argv[1]]())
+    made: dict[str, Callable[[], str]] = {"arch": arch, "mep": lambda: mep(False), "mep-next": lambda: mep(True)}
+    parser = argparse.ArgumentParser(description=__doc__)
+    parser.add_argument("file", choices=made)
+    sys.stdout.write(made[parser.parse_args().file]())
     return 0
 
 

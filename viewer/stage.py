@@ -15,7 +15,9 @@ import subprocess
 import sys
 import tempfile
 import time
+from collections.abc import Sequence
 from pathlib import Path
+from typing import Any
 
 HERE = Path(__file__).resolve().parent
 PAGE = HERE / "www"
@@ -99,7 +101,7 @@ class Stage:
         self.stop()
         raise Failure(f"{words[0]} doesn't listen at port {port}: {said}")
 
-    def call(self, method: str, path: str, body: bytes | None = None) -> dict:
+    def call(self, method: str, path: str, body: bytes | None = None) -> dict[str, Any]:
         """One request to the server itself; the answer's JSON."""
         link = http.client.HTTPConnection("127.0.0.1", self.server_port, timeout=300)
         link.request(method, path, body)
@@ -108,15 +110,15 @@ class Stage:
         link.close()
         if reply.status >= 300:
             raise Failure(f"{method} {path}: {text.decode()}")
-        answer: dict = json.loads(text)
+        answer: dict[str, Any] = json.loads(text)
         return answer
 
-    def put_rules(self, rules: list[dict], project: str = PROJECT) -> dict:
+    def put_rules(self, rules: Sequence[object], project: str = PROJECT) -> dict[str, Any]:
         """Sets the rules of a project, of the first if none is named."""
         body = json.dumps({"rules": rules}).encode()
         return self.call("PUT", f"/coord/1/projects/{project}/rules", body)
 
-    def put_model(self, name: str, file: bytes, project: str = PROJECT) -> dict:
+    def put_model(self, name: str, file: bytes, project: str = PROJECT) -> dict[str, Any]:
         """Puts a model into a project, into the first if none is named."""
         path = f"/coord/1/projects/{project}/models/{name}?grid=snap"
         return self.call("PUT", path, file)

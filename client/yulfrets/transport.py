@@ -2,14 +2,18 @@
 
 from __future__ import annotations
 
+import sys
 import time
 from collections.abc import Callable
 from dataclasses import dataclass
 from typing import Any
 
-import requests
-from requests import exceptions as broken
-from requests.auth import HTTPBasicAuth
+try:
+    import requests
+    from requests import exceptions as broken
+    from requests.auth import HTTPBasicAuth
+except ModuleNotFoundError:
+    sys.exit("yulfrets: Python has no module requests: apt-get install python3-requests")
 
 from .errors import Refused, Unknown, Unreachable
 from .settings import Settings

@@ -16,6 +16,7 @@ from pathlib import Path
 from typing import Callable, Optional, Sequence
 
 from cases import CORNERS, FACES, point_list, with_front
+from given import given
 from model import METRE, MILLIMETRE, Model, conversion, listed
 from rows import run_rows
 from served import Answer, answers, boxes_of
@@ -191,7 +192,8 @@ def check_case(server: str, source: Path) -> None:
 
 
 def main() -> int:
-    program, server, folder = sys.argv[1], sys.argv[2], Path(sys.argv[3])
+    program, server, place = given(__doc__, "ifc2grid", "server", "folder")
+    folder = Path(place)
     own = folder / "as_it_is"
     own.mkdir(parents=True, exist_ok=True)
     checks: dict[str, Callable[[], None]] = {}

@@ -11,6 +11,8 @@ from collections import Counter
 from concurrent.futures import ThreadPoolExecutor
 from pathlib import Path
 
+from given import given
+
 REFERENCE = re.compile(r"#\d+")
 NUMBER = re.compile(r"-?\d+\.\d*(?:E-?\d+)?")
 KEYWORD = re.compile(r"IFC[A-Z0-9]+")
@@ -70,8 +72,8 @@ class Trial:
 
 
 def main() -> int:
-    program, folder = sys.argv[1], Path(sys.argv[2]) / "broken"
-    count, seed = int(sys.argv[3]), int(sys.argv[4])
+    program, place, *numbers = given(__doc__, "ifc2grid", "folder", "count", "seed")
+    folder, (count, seed) = Path(place) / "broken", map(int, numbers)
     folder.mkdir(parents=True, exist_ok=True)
     draw = random.Random(seed)
     made = sorted(path for path in folder.parent.glob("*.ifc") if not path.name.endswith(".out.ifc"))

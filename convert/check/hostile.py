@@ -9,6 +9,7 @@ import sys
 from pathlib import Path
 from typing import Callable
 
+from given import given
 from model import Model, listed, numbers
 
 SECONDS = 60
@@ -119,7 +120,8 @@ def failure(program: str, folder: Path, make: Callable[[], Model]) -> str:
 
 
 def main() -> int:
-    program, folder = sys.argv[1], Path(sys.argv[2])
+    program, place = given(__doc__, "ifc2grid", "folder")
+    folder = Path(place)
     folder.mkdir(parents=True, exist_ok=True)
     failed = 0
     for make in MAKERS:

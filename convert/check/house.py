@@ -14,6 +14,7 @@ import sys
 from pathlib import Path
 from typing import Callable
 
+from given import given
 from rows import run_rows
 from written import Element, read
 
@@ -108,7 +109,8 @@ def check_split(program: str, source: Path, folder: Path, whole: dict[str, Eleme
 
 
 def main() -> int:
-    program, source, folder = sys.argv[1], Path(sys.argv[2]), Path(sys.argv[3])
+    program, *paths = given(__doc__, "ifc2grid", "house", "folder")
+    source, folder = map(Path, paths)
     folder.mkdir(parents=True, exist_ok=True)
     text = source.read_bytes().decode("latin1")
     whole = run(program, source, folder / "house.ifc")

@@ -10,6 +10,7 @@ import subprocess
 import sys
 from pathlib import Path
 
+from given import given
 from served import answers, boxes_of
 from written import Element, read
 
@@ -111,7 +112,8 @@ def check_words(program: str, folder: Path) -> None:
 
 
 def main() -> int:
-    program, server, folder = sys.argv[1], sys.argv[2], Path(sys.argv[3])
+    program, server, place = given(__doc__, "mesh2grid", "server", "folder")
+    folder = Path(place)
     folder.mkdir(parents=True, exist_ok=True)
     failed = 0
     for name, make in FORMATS.items():

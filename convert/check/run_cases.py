@@ -9,6 +9,7 @@ import sys
 from pathlib import Path
 
 from cases import CASES, Case
+from given import given
 from surfaces import SURFACES
 from written import read
 
@@ -40,7 +41,8 @@ def failure(case: Case, program: str, folder: Path) -> str:
 
 
 def main() -> int:
-    program, folder = sys.argv[1], Path(sys.argv[2])
+    program, place = given(__doc__, "ifc2grid", "folder")
+    folder = Path(place)
     folder.mkdir(parents=True, exist_ok=True)
     failed = 0
     made = [make() for make in CASES + SURFACES]

@@ -15,6 +15,7 @@ from dataclasses import dataclass
 from pathlib import Path
 from typing import Any, Iterator
 
+from given import given
 from written import read
 
 PROJECT = "/coord/1/projects/00000001-0000-8000-8000-000000000000"
@@ -119,7 +120,8 @@ def check_split(server: str, folder: Path) -> str:
 
 
 def main() -> int:
-    server, folder = sys.argv[1], Path(sys.argv[2])
+    server, place = given(__doc__, "server", "folder")
+    folder = Path(place)
     count, failed = check_uploads(server, folder)
     reason = check_split(server, folder)
     if reason:

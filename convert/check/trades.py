@@ -7,6 +7,7 @@ import subprocess
 import sys
 from pathlib import Path
 
+from given import given
 from model import METRE, Model
 from written import read
 
@@ -55,7 +56,8 @@ def check_order(program: str, folder: Path, order: tuple[str, str]) -> None:
 
 
 def main() -> int:
-    program, folder = sys.argv[1], Path(sys.argv[2])
+    program, place = given(__doc__, "ifc2grid", "folder")
+    folder = Path(place)
     folder.mkdir(parents=True, exist_ok=True)
     (folder / "local.ifc").write_text(local_trade())
     (folder / "map.ifc").write_text(map_trade())

@@ -13,6 +13,7 @@ import sys
 from pathlib import Path
 
 from cases import with_front
+from given import given
 from model import Model, conversion, number
 from surfaces import Shell, capped
 
@@ -92,7 +93,8 @@ def check(program: str, server: str, house: Path, folder: Path) -> None:
 
 
 def main() -> int:
-    program, server, house, folder = sys.argv[1], sys.argv[2], Path(sys.argv[3]), Path(sys.argv[4])
+    program, server, *paths = given(__doc__, "ifc2grid", "server", "house", "folder")
+    house, folder = map(Path, paths)
     folder.mkdir(parents=True, exist_ok=True)
     try:
         check(program, server, house, folder)

@@ -8,6 +8,7 @@ import subprocess
 import sys
 from pathlib import Path
 
+from given import given
 from model import Model
 from rows import run_rows
 from written import read
@@ -150,9 +151,10 @@ class Words:
 
 
 def main() -> int:
-    folder = Path(sys.argv[3])
+    program, house, place = given(__doc__, "ifc2grid", "house", "folder")
+    folder = Path(place)
     folder.mkdir(parents=True, exist_ok=True)
-    words = Words(sys.argv[1], sys.argv[2], folder)
+    words = Words(program, house, folder)
     checks = [
         words.wrong_words,
         words.not_readable,

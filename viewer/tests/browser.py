@@ -2,6 +2,7 @@
 import base64
 import io
 import time
+from collections.abc import Sequence
 from typing import Any
 
 from PIL import Image
@@ -114,7 +115,7 @@ class Browser:
         right, down = round(x - size["width"] / 2), round(y - size["height"] / 2)
         mouse.move_to_element_with_offset(canvas, right, down).click().perform()
 
-    def place_of(self, point: list[int]) -> tuple[float, float]:
+    def place_of(self, point: Sequence[float]) -> tuple[float, float]:
         """Where a point of the building is in the picture."""
         script = """
             const { camera, scene } = page.view, m = camera.matrix(scene.aspect());

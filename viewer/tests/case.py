@@ -44,18 +44,18 @@ class Case:
         for number in (3, 4):
             self.clashes(number)
 
-    def clashes(self, number: int) -> list[dict]:
+    def clashes(self, number: int) -> list[dict[str, Any]]:
         """All clashes of a version, from the server itself, once they are found."""
         path = f"/coord/1/projects/{PROJECT}/versions/{number}/clashes"
         for _ in range(600):
             reply = self.stage.call("GET", path)
             if "clashes" in reply:
-                found: list[dict] = reply["clashes"]
+                found: list[dict[str, Any]] = reply["clashes"]
                 return found
             time.sleep(0.1)
         raise AssertionError(f"the clashes of version {number} aren't found in a minute")
 
-    def newest(self) -> dict:
+    def newest(self) -> dict[str, Any]:
         """The newest version, from the server itself."""
         return self.stage.call("GET", f"/coord/1/projects/{PROJECT}/versions/newest")
 

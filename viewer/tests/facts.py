@@ -1,6 +1,7 @@
 """What the made building holds, read from its files by the tests themselves, and clashes compared by hand."""
 import re
 from dataclasses import dataclass
+from typing import Any
 
 ELEMENT = re.compile(r"^#(\d+)=(IFC\w+)\('([^']{22})',\$,'([^']*)',\$,\$,\$,#\d+,", re.M)
 POINTS = re.compile(r"^#(\d+)=IFCCARTESIANPOINTLIST3D\(\((.*)\)\);$", re.M)
@@ -45,13 +46,13 @@ def elements(model: str, text: str) -> list[Element]:
     ]
 
 
-def boxes(version: dict, model: str) -> dict[str, list[float]]:
+def boxes(version: dict[str, Any], model: str) -> dict[str, list[float]]:
     """The boxes of a model's elements in millimetres, from the server's own reply: `per_mm` is its grid, 1 where it doesn't say."""
     per = version.get("per_mm", 1)
     listed = [e for m in version["models"] if m["name"] == model for e in m["elements"]]
     return {e["guid"]: [v / per for v in e["box"]] for e in listed}
 
 
-def pair(clash: dict) -> frozenset:
+def pair(clash: dict[str, Any]) -> frozenset[tuple[str, str]]:
     """A clash as the set of its two elements."""
     return frozenset((side["model"], side["guid"]) for side in (clash["a"], clash["b"]))

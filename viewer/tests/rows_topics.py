@@ -1,8 +1,10 @@
 """Rows: a topic of a clash, changed, commented, with viewpoints of components."""
+from typing import Any
+
 from .case import Case, Rows, same
 
 
-def first_new(case: Case) -> dict:
+def first_new(case: Case) -> dict[str, Any]:
     """Chooses the first new clash; its two identifiers."""
     b = case.browser
     b.click("#tab-clashes")
