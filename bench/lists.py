@@ -3,13 +3,16 @@
 
 Each figure is of a processor's time, the least of N (5) runs of `replay`, less that of the same
 session without the lists, for one list of N (9,900) topics. The ratio is against the list of all of
-them. A session has at most 10,000 requests. The last three rows are the filters that take most:
-4,096 bytes, of which 32 `(` are open within each other; and as many searches of the longest member
-as a filter has room for, of one byte and of two.
+them. A session has at most 10,000 requests. The last rows are what takes most: a filter of 4,096
+bytes, of which 32 `(` are open within each other; as many searches of the longest member as a
+filter has room for, of one byte and of two; and an order by four of the longest texts, of which
+only the last byte of the last differs.
 """
 
 import sys
 import urllib.parse
+from collections.abc import Callable
+from typing import NamedTuple
 
 from bench.timing import least_of_processor, replay_words, request
 from tests.support.checks import arguments
@@ -33,38 +36,71 @@ BYTE = joined("contains(stage,'b')", "contains(stage,'b')")
 TWO_BYTES = joined("contains(stage,'ab')", "contains(stage,'ab')")
 ALL_KEPT = "title ne 'x' and index ge 0"
 
-Row = tuple[str, str | None, str | None, int | None]
+Texts = Callable[[int], str]
 
-# What is measured: its name, the filter, the order, and how many are listed at most.
-ROWS: list[Row] = [
-    ("all", None, None, None),
-    ("all, filtered", ALL_KEPT, None, None),
-    ("all, ordered", None, "title,index desc,creation_date", None),
-    ("all, filtered and ordered", ALL_KEPT, "title,index desc,creation_date", None),
-    ("the first 20", None, None, 20),
-    ("the first 20, ordered", None, "title,index desc,creation_date", 20),
-    ("the first 20, filtered and ordered", ALL_KEPT, "index desc", 20),
-    ("none, by a filter 32 deep", DEEP, None, None),
+
+class Row(NamedTuple):
+    """A list that is measured: its filter, its order and its page."""
+
+    name: str
+    kept: str | None = None
+    order: str | None = None
+    top: int | None = None
+    skip: int | None = None
+
+
+BY_TITLE = "title,index desc,creation_date"
+ROWS = [
+    Row("all"),
+    Row("all, filtered", ALL_KEPT),
+    Row("all, ordered", None, BY_TITLE),
+    Row("all, filtered and ordered", ALL_KEPT, BY_TITLE),
+    Row("the first 20", top=20),
+    Row("the first 20, ordered", None, BY_TITLE, 20),
+    Row("the first 20, filtered and ordered", ALL_KEPT, "index desc", 20),
+    Row("none, by a filter 32 deep", DEEP),
 ]
-STAGED: list[Row] = [
-    ("none, by searches of 4,096 bytes for one", BYTE, None, None),
-    ("none, by searches of 4,096 bytes for two", TWO_BYTES, None, None),
+STAGED = [
+    Row("none, by searches of 4,096 bytes for one", BYTE),
+    Row("none, by searches of 4,096 bytes for two", TWO_BYTES),
+]
+TEXTS = ("topic_type", "priority", "stage", "description")
+# The page is one topic, so that what is measured isn't the printing of long texts.
+ALIKE = [
+    Row("the first, by four texts of 4,096 bytes", None, ",".join(TEXTS), 1),
+    Row("the last, by four texts of 4,096 bytes", None, ",".join(TEXTS), 1, 9899),
 ]
 
 
-def topics(count: int, staged: bool) -> list[bytes]:
-    """So many topics, with the longest stages or none."""
+def no_texts(_: int) -> str:
+    return ""
+
+
+def staged(_: int) -> str:
+    """The longest stage."""
+    return f',"stage":"{"a" * 4096}"'
+
+
+def alike(number: int) -> str:
+    """The longest texts, which differ in the last byte of the last."""
+    given = {name: "a" * 4096 for name in TEXTS}
+    given["description"] = "a" * 4095 + chr(ord("0") + number * 7919 % 64)
+    return "".join(f',"{name}":"{text}"' for name, text in given.items())
+
+
+def topics(count: int, texts: Texts) -> list[bytes]:
+    """So many topics, each with these texts beside its title."""
     made = []
     for number in range(count):
-        text = f',"stage":"{"a" * 4096}"' if staged else ""
-        body = f'{{"title":"{TITLES[number % 5]}","index":{number * 7919 % count}{text}}}'
+        index = number * 7919 % count
+        body = f'{{"title":"{TITLES[number % 5]}","index":{index}{texts(number)}}}'
         made.append(request("POST", TOPICS, body))
     return made
 
 
-def listed(kept: str | None, order: str | None, top: int | None) -> bytes:
+def listed(row: Row) -> bytes:
     """A request for a list."""
-    parts = {"$filter": kept, "$orderby": order, "$top": top}
+    parts = {"$filter": row.kept, "$orderby": row.order, "$top": row.top, "$skip": row.skip}
     given = {name: value for name, value in parts.items() if value is not None}
     query = urllib.parse.urlencode(given, safe="$", quote_via=urllib.parse.quote)
     return request("GET", f"{TOPICS}?{query}" if query else TOPICS)
@@ -87,15 +123,15 @@ def main() -> int:
     given = parser.parse_args()
     program = built(given.program)
     whole = None
-    for staged, rows in ((False, ROWS), (True, STAGED)):
-        first = topics(given.topics, staged)
+    for texts, rows in ((no_texts, ROWS), (staged, STAGED), (alike, ALIKE)):
+        first = topics(given.topics, texts)
         before = taken(program, given.runs, first)
-        for name, kept, order, top in rows:
-            times = TIMES_OF_A_FEW if top else TIMES
-            lists = [listed(kept, order, top)] * times
+        for row in rows:
+            times = TIMES_OF_A_FEW if row.top == 20 else TIMES
+            lists = [listed(row)] * times
             each = (taken(program, given.runs, first + lists) - before) / times
             whole = whole or each
-            print(f"{name}: {1000 * each:.2f} ms, ratio {each / whole:.2f}")
+            print(f"{row.name}: {1000 * each:.2f} ms, ratio {each / whole:.2f}")
     return 0
 
 

@@ -64,6 +64,9 @@ INPUTS: dict[str, Callable[[], bytes]] = {
     "a face of 83 rings within one another, listed 4 times": lambda: upload(
         listed_voids(rings(83), 4)
     ),
+    "two faces of 83 rings, listed 100 times by turns": lambda: upload(
+        listed_voids(rings(83), 100, 2)
+    ),
     "one comb, shared by 1,000 pipes": lambda: upload(polygons(comb(), 1, 1, 1000)),
     "a set mapped 1,000,000 times": lambda: upload(mapped(1000000)),
     "1,000 sets over a list of 100,000 points": lambda: upload(sharing(1000, 100000)),

@@ -55,12 +55,12 @@ def corners_of(loops: Loops) -> Flat:
     return [corner for loop in loops for corner in loop]
 
 
-def listed_voids(loops: Loops, listed: int) -> bytes:
-    """A pipe of one face with voids that is listed so often."""
-    names = ",".join(["#100"] * listed)
+def listed_voids(loops: Loops, listed: int, faces: int = 1) -> bytes:
+    """A pipe of so many faces with the same loops, which are listed by turns, so often in all."""
+    names = ",".join(f"#{100 + n % faces}" for n in range(listed))
     return file_of(
         points(4, corners_of(loops)),
-        face(100, loops),
+        *(face(100 + n, loops) for n in range(faces)),
         f"#5=IFCPOLYGONALFACESET(#4,$,({names}),$);\n",
         shape(),
         pipes(1, 2000),
