@@ -84,7 +84,7 @@ def staged(_: int) -> str:
 def alike(number: int) -> str:
     """The longest texts, which differ in the last byte of the last."""
     given = {name: "a" * 4096 for name in TEXTS}
-    given["description"] = "a" * 4095 + chr(ord("0") + number * 7919 % 64)
+    given["description"] = "a" * 4095 + chr(ord("A") + number % 26)
     return "".join(f',"{name}":"{text}"' for name, text in given.items())
 
 
