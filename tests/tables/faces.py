@@ -14,6 +14,7 @@ from tests.tables.sessions import (
     CLASHES,
     FACE,
     FARTHEST,
+    FEW_MEMBERSHIPS,
     MOST_MEMBERSHIPS,
     Point,
     Reply,
@@ -34,7 +35,6 @@ TABLE = os.path.join(os.path.dirname(__file__), "joined_faces.json")
 WORDS = {"U15": "FaceStuck", "U16": "VoidedFace"}
 HEIGHT = 1000  # of a pin over the face and below it, in grid numbers
 MOST_PINS = 100
-FEW_MEMBERSHIPS = 200_000
 
 
 def loops_of(row: Any) -> list[list[Point]]:

@@ -15,7 +15,7 @@ from tests.support.http import MOMENT, body_in, coord_of, replies_in, request
 Point = tuple[int, int, int]
 Triangle = tuple[Point, Point, Point]
 CELL, GROWTH = 40_000, 10_000  # four metres and a metre, in grid numbers
-MOST_MEMBERSHIPS = 2_000_000
+MOST_MEMBERSHIPS, FEW_MEMBERSHIPS = 2_000_000, 200_000
 FARTHEST = 8_000_000
 FACE = 5  # the number of the face in its file
 SET_RULES = request(
