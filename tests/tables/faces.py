@@ -93,19 +93,19 @@ def check_face(program: str, row: Any) -> None:
     if "fault" in row:
         code = row["fault"]
         fault = {"code": code, "id": FACE, "message": f"{code} {WORDS[code]}"}
-        check(program, requests, [Reply(422, fault)])
+        check(program, "other", requests, [Reply(422, fault)])
         return
     if count > MOST_MEMBERSHIPS:
-        check(program, requests, [too_spread(count)])
+        check(program, "other", requests, [too_spread(count)])
         return
     made, pins = accepted(1, len(row["triangles"]), 2), pins_of(row)
     if not pins or count + sum(map(memberships, pins)) > FEW_MEMBERSHIPS:
-        check(program, requests, [made])
+        check(program, "other", requests, [made])
         return
     requests += [put("pins", triangle_file(pins)), CLASHES]
     pairs = [("face", 1, "pins", n) for n in pierced(row, pins)]
     more = accepted(len(pins), len(pins), 3)
-    check(program, requests, [made, more, clashes(pairs, 3)])
+    check(program, "other", requests, [made, more, clashes(pairs, 3)])
 
 
 def joined_faces(program: str) -> str:

@@ -32,12 +32,12 @@ def check_pair(program: str, row: Any) -> None:
     many cells are tried in one order."""
     one, other, count = triangle(row["one"]), triangle(row["other"]), spread(row)
     if count > MOST_MEMBERSHIPS:
-        check(program, [put("m", triangle_file([one, other]))], [too_spread(count)])
+        check(program, "any", [put("m", triangle_file([one, other]))], [too_spread(count)])
         return
     pairs = [("m", 0, "m", 1)] if row["pierce"] else []
     for shapes in ([one, other], [other, one])[: 2 if count < FEW_MEMBERSHIPS else 1]:
         requests = [put("m", triangle_file(shapes)), CLASHES]
-        check(program, requests, [accepted(2, 2, 2), clashes(pairs, 2)])
+        check(program, "any", requests, [accepted(2, 2, 2), clashes(pairs, 2)])
 
 
 def pierced_pairs(program: str) -> str:

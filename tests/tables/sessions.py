@@ -18,11 +18,6 @@ CELL, GROWTH = 40_000, 10_000  # four metres and a metre, in grid numbers
 MOST_MEMBERSHIPS, FEW_MEMBERSHIPS = 2_000_000, 200_000
 FARTHEST = 8_000_000
 FACE = 5  # the number of the face in its file
-SET_RULES = request(
-    "PUT",
-    f"{coord_of()}/rules",
-    b'{"rules":[{"a":"*","b":"*","kind":"pierce"}]}',
-)
 CLASHES = request("GET", f"{coord_of()}/versions/newest/clashes")
 
 
@@ -105,6 +100,12 @@ def clashes(pairs: Iterable[tuple[str, int, str, int]], version: int) -> Reply:
     return Reply(200, {"clashes": found, "first": 0, "total": len(found), "version": version})
 
 
+def set_rules(models: str) -> bytes:
+    """One rule that asks for piercing: of elements of any models, or of other ones."""
+    rule = {"a": "*", "b": "*", "kind": "pierce", "models": models}
+    return request("PUT", f"{coord_of()}/rules", json.dumps({"rules": [rule]}).encode())
+
+
 def replies(program: str, requests: Sequence[bytes]) -> list[Reply]:
     """What the program answers to a session."""
     words = [program, "replay", "--at", str(MOMENT)]
@@ -115,12 +116,15 @@ def replies(program: str, requests: Sequence[bytes]) -> list[Reply]:
     return [Reply(int(it[9:12]), json.loads(body_in(it))) for it in found]
 
 
-def check(program: str, requests: Sequence[bytes], wanted: Sequence[Reply]) -> None:
-    """Ends the row where a reply to the requests, the first of which sets rules, isn't the one that
-    is wanted."""
-    for got, reply in zip(replies(program, [SET_RULES, *requests])[1:], wanted, strict=True):
-        seen = {name: got.tree.get(name) for name in reply.tree}
-        expect((got.status, seen) == reply, f"{got.status} {seen}, wanted {reply}")
+def check(
+    program: str, models: str, requests: Sequence[bytes], wanted: Sequence[Reply]
+) -> None:
+    """Ends the row where a reply to the requests, once the rule is set, isn't the one that is
+    wanted."""
+    got = replies(program, [set_rules(models), *requests])
+    for it, reply in zip(got, [Reply(200, {"version": 1}), *wanted], strict=True):
+        seen = {name: it.tree.get(name) for name in reply.tree}
+        expect((it.status, seen) == reply, f"{it.status} {seen}, wanted {reply}")
 
 
 def check_all(rows: Sequence[Any], check_row: Callable[[Any], None]) -> None:
