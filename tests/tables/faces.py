@@ -61,15 +61,15 @@ def pin_along(a: Point, b: Point, axis: int) -> Triangle | None:
 
 
 def pins_of(row: Any) -> list[Triangle]:
-    """A pin along each line by which the face has to be cut, or some of many. No triangle of the cut
-    has such a line inside, so a pin pierces none, unless the cut overlaps itself. But it pierces
-    those of another cut of a plane face that the line goes through."""
+    """A pin along each line by which the face has to be cut, or some of many. No triangle of the
+    cut has such a line inside, so a pin pierces none, unless the cut overlaps itself. But it
+    pierces those of another cut of a plane face that the line goes through."""
     loops = loops_of(row)
     corners, axis = [corner for loop in loops for corner in loop], Polygon(loops[0]).axis
     sides = [{it[n - 1], it[n]} for it in row["triangles"] for n in range(3)]
     lines = {frozenset(it) for it in sides if len(it) == 2} - edges_of(loops)
-    pins = (pin_along(*(corners[n] for n in sorted(it)), axis) for it in sorted(map(sorted, lines)))
-    made = [it for it in pins if it]
+    ends = sorted((min(it), max(it)) for it in lines)
+    made = [it for a, b in ends if (it := pin_along(corners[a], corners[b], axis))]
     return made[:: 1 + len(made) // MOST_PINS]
 
 

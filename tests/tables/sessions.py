@@ -116,9 +116,7 @@ def replies(program: str, requests: Sequence[bytes]) -> list[Reply]:
     return [Reply(int(it[9:12]), json.loads(body_in(it))) for it in found]
 
 
-def check(
-    program: str, models: str, requests: Sequence[bytes], wanted: Sequence[Reply]
-) -> None:
+def check(program: str, models: str, requests: Sequence[bytes], wanted: Sequence[Reply]) -> None:
     """Ends the row where a reply to the requests, once the rule is set, isn't the one that is
     wanted."""
     got = replies(program, [set_rules(models), *requests])
