@@ -18,6 +18,7 @@ CELL, GROWTH = 40_000, 10_000  # four metres and a metre, in grid numbers
 MOST_MEMBERSHIPS, FEW_MEMBERSHIPS = 2_000_000, 200_000
 FARTHEST = 8_000_000
 FACE = 5  # the number of the face in its file
+SECONDS = 300  # that a session may take, also on a busy machine
 CLASHES = request("GET", f"{coord_of()}/versions/newest/clashes")
 
 
@@ -109,7 +110,9 @@ def set_rules(models: str) -> bytes:
 def replies(program: str, requests: Sequence[bytes]) -> list[Reply]:
     """What the program answers to a session."""
     words = [program, "replay", "--at", str(MOMENT)]
-    run = subprocess.run(words, input=b"".join(requests), stdout=subprocess.PIPE, check=False)
+    run = subprocess.run(
+        words, input=b"".join(requests), stdout=subprocess.PIPE, timeout=SECONDS, check=False
+    )
     found, rest = replies_in(run.stdout)
     expect((run.returncode, rest) == (0, b""), f"status {run.returncode}, left {rest[:100]!r}")
     expect(len(found) == len(requests), f"{len(found)} replies to {len(requests)} requests")
