@@ -5,9 +5,9 @@
 # make serve             serves on 127.0.0.1:8080 over the built program, until it is stopped
 #
 # make check             the test command, in this order: the lints (make lint); the gate of the toolchain (rt ci); then, over
-#                        the program that it built, the end-to-end cases, clients over sockets, what it asks of the system,
-#                        inputs up to the limits, calls of the C library that fail in turn, floods, the speed of reading, and
-#                        what inputs cost by their shape; then what stands beside the server (BESIDE)
+#                        the program that it built, the end-to-end cases, tables of faces and pairs, clients over sockets, what it
+#                        asks of the system, inputs up to the limits, calls of the C library that fail in turn, floods, the speed
+#                        of reading, and what inputs cost by their shape; then what stands beside the server (BESIDE)
 # make lint              what is listed of the repository, and the linters of the Python beside it: below a minute, no toolchain
 # make tests             what make check runs over the built program, without the lints and the toolchain
 # make hostile           failing calls and floods whole, over the program as it was built last: some minutes
@@ -76,6 +76,7 @@ lint:
 tests: program
 	python3 -m tests.cases $(PROGRAM)
 	python3 -m tests.examples $(PROGRAM)
+	python3 -m tests.tables $(PROGRAM)
 	python3 -m tests.serve $(PROGRAM) $(SERVE_ROWS)
 	python3 -m tests.system $(PROGRAM)
 	python3 -m tests.within $(PROGRAM)

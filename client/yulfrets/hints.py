@@ -20,7 +20,7 @@ HINTS = {
     "U13": "only face sets are taken: export as IFC4 Reference View, or convert by ifc2grid",
     "U14": "a face names a point that isn't there: export the model anew",
     "U15": "a face can't be cut into triangles: convert the file by ifc2grid",
-    "U16": "faces with holes aren't taken: convert the file by ifc2grid",
+    "U16": "the holes of a face can't be joined to its outline: convert the file by ifc2grid",
     "U17": "two elements have one GlobalId: mend it in the authoring program",
     "U18": "an object stands in two storeys or wholes: mend it in the authoring program",
     "U19": "the file is too large: split it, by storey or by discipline",

@@ -1,6 +1,7 @@
 """Files of polygonal faces with voids, by their loops: the outer one first."""
 
 import math
+from collections.abc import Sequence
 
 from tests.ifc.basics import body_of, file_of, pipes, points, shape
 from tests.ifc.polygons import Flat
@@ -41,7 +42,7 @@ def rings(count: int) -> Loops:
     return [square, *(ring(2000 * (n + 1), n % 2 == 0) for n in range(count))]
 
 
-def face(number: int, loops: Loops) -> str:
+def face(number: int, loops: Sequence[Sequence[object]]) -> str:
     """The face of these loops, by the corners of the list that has one loop after another."""
     first, spelled = 1, []
     for loop in loops:

@@ -15,6 +15,7 @@ from tests.ifc.basics import (
 from tests.ifc.crowds import chain, long_name, mapped, placed, shared_storey
 from tests.ifc.limits import with_instances, with_values
 from tests.ifc.polygons import broad_comb, combs
+from tests.ifc.voids import Loops, faces_with_voids, windows
 from tests.support.checks import expect
 from tests.within.asking import MODEL, Asking
 
@@ -86,6 +87,22 @@ def faces(program: str) -> str:
     return "20 of 1,000 corners"
 
 
+def triangles_of(loops: Loops) -> int:
+    """How many triangles a face with holes is cut into: two less than its list has corners, to
+    which each bridge adds two."""
+    return sum(map(len, loops)) + 2 * (len(loops) - 1) - 2
+
+
+def voids(program: str) -> str:
+    """Faces of 1,000 corners in 300 holes, and in 50, with all their triangles."""
+    with Asking(program) as it:
+        for loops in (windows(100, 300, 3), windows(50, 50, 19)):
+            made = it.upload(faces_with_voids(loops, 20), 20)
+            wanted = 20 * triangles_of(loops)
+            expect(made["triangles"] == wanted, f"{made['triangles']} triangles, wanted {wanted}")
+    return "20 faces in 300 holes, 20 in 50"
+
+
 def padded(file: bytes, size: int) -> bytes:
     """The file with a comment before its end, so that it has so many bytes."""
     start, end = file[: -len(TAIL)], file[-len(TAIL) :]
@@ -124,4 +141,4 @@ def farthest(program: str) -> str:
     return "on both sides"
 
 
-FILES = [farthest, own_shapes, placements, storeys, pieces, faces, greatest]
+FILES = [farthest, own_shapes, placements, storeys, pieces, faces, voids, greatest]

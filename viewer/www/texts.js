@@ -203,7 +203,7 @@ export const TEXTS = {
   'fault-U13': ['A body isn\'t made of faces: solids and cuts aren\'t taken.', 'Ein Körper besteht nicht aus Flächen: Volumenkörper und Schnitte werden nicht genommen.'],
   'fault-U14': ['An index of a mesh points at nothing.', 'Ein Index eines Netzes zeigt auf nichts.'],
   'fault-U15': ['A face can\'t be cut into triangles.', 'Eine Fläche lässt sich nicht in Dreiecke teilen.'],
-  'fault-U16': ['A face has holes.', 'Eine Fläche hat Löcher.'],
+  'fault-U16': ['The holes of a face can\'t be joined to its outline.', 'Die Löcher einer Fläche lassen sich nicht mit ihrem Umriss verbinden.'],
   'fault-U17': ['Two elements have the same identifier.', 'Zwei Bauteile haben dieselbe Kennung.'],
   'fault-U18': ['An object is contained twice, or is part of two others or of itself.', 'Ein Objekt ist zweimal enthalten, oder es ist Teil von zwei anderen oder von sich selbst.'],
   'fault-U19': ['The file has too many of something.', 'Die Datei hat von etwas zu viel.'],

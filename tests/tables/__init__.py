@@ -1,0 +1,2 @@
+"""Tables of single faces and pairs that an independent program worked out, over the built
+program."""
