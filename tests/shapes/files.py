@@ -51,6 +51,16 @@ def clashes(file: bytes, body: bytes = rules(0)) -> bytes:
     return request("PUT", f"{coord_of()}/rules", body) + upload(file)
 
 
+PIERCED = b'{"rules":[{"a":"*","b":"*","kind":"pierce"}]}'
+
+
+def ordered(count: int, times: int) -> bytes:
+    """So many topics, their titles falling, and so often the end of their list by title."""
+    made = (topic(b'{"title":"%07d"}' % (count - n)) for n in range(count))
+    page = request("GET", f"{topics_of()}?%24orderby=title&%24skip={count - 1}")
+    return b"".join(made) + page * times
+
+
 def many_rules(first: bytes, count: int = 200) -> bytes:
     """So many rules, of which the last fits any two elements and those before don't fit ours."""
     return b'{"rules":[' + first * (count - 1) + rules(0)[10:]
@@ -220,6 +230,8 @@ CLASHES = [
     Shape("a heap of 600 boxes", 30, lambda: clashes(heap(600))),
     Shape("20 sheets of 1,000 triangles", 600, lambda: clashes(sheets(20))),
     Shape("20 slanted plates of 500 triangles", 90, lambda: clashes(ramps(20))),
+    Shape("20 sheets that don't pierce", 600, lambda: clashes(sheets(20), PIERCED)),
+    Shape("20 plates that don't pierce", 90, lambda: clashes(ramps(20), PIERCED)),
     Shape(
         "300 pipes, by the last of 200 rules",
         200,
@@ -269,6 +281,7 @@ REQUESTS = [
         b"HTTP/1.1 400 ",
     ),
     Shape("heads of 16,384 bytes", 1, lambda: head_of(16_384) * 50, b"HTTP/1.1 200 "),
+    Shape("2,000 topics, ordered 50 times", 10, lambda: ordered(2_000, 50), b"HTTP/1.1 200 "),
     Shape("elements in too many cells", 1.6, lambda: upload(placed(2_000, 150_000, 10)), FULL),
 ]
 PLAIN: dict[str, Callable[[], bytes]] = {

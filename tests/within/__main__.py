@@ -14,8 +14,9 @@ from tests.support.programs import built
 from tests.within.bodies import BODIES
 from tests.within.clashes import CLASHES
 from tests.within.files import FILES
+from tests.within.lists import LISTS
 
-ALL: list[Callable[[str], str]] = [*FILES, *CLASHES, *BODIES]
+ALL: list[Callable[[str], str]] = [*FILES, *CLASHES, *BODIES, *LISTS]
 ROWS = {row.__name__: row for row in ALL}
 
 
