@@ -1,4 +1,5 @@
-"""Lists of as many topics as there may be, by filters and orders as long as they may be."""
+"""Lists of as many topics as there may be, by filters and orders as long as they may be, and of more
+comments than 16 bits count."""
 
 import json
 from typing import Any
@@ -10,7 +11,10 @@ from tests.support.http import request, topics_of
 from tests.within.asking import Asking
 
 TOPICS = 10_000
+COMMENTS = 70_000
+VIEWPOINTS = 20_000
 AT_ONCE = 100
+A_CONNECTION = 9_000  # of the 10,000 requests that one may make
 LONGEST = 4096
 DEEPEST = 32
 NUMBERS = [n * 7919 % TOPICS for n in range(TOPICS)]
@@ -20,19 +24,24 @@ def title(number: int) -> str:
     return f"{number:05}"
 
 
-def make(it: Asking, numbers: list[int]) -> None:
-    """Makes topics of these numbers over a connection of its own."""
-    with Client(it.server) as client:
-        for at in range(0, len(numbers), AT_ONCE):
-            bodies = [
-                {"title": title(n), "priority": str(n % 3), "stage": str(n % 5), "index": n % 7}
-                for n in numbers[at : at + AT_ONCE]
-            ]
-            asked = (request("POST", topics_of(), json.dumps(body).encode()) for body in bodies)
-            client.socket.sendall(b"".join(asked))
-            for _ in bodies:
-                made = client.read()
-                expect(made.status == 201, f"{made.status} {made.body[:200]!r}")
+def post(it: Asking, asked: list[bytes]) -> None:
+    """Makes what the requests ask for, many at once, over connections of their own."""
+    for start in range(0, len(asked), A_CONNECTION):
+        some = asked[start : start + A_CONNECTION]
+        with Client(it.server) as client:
+            for at in range(0, len(some), AT_ONCE):
+                part = some[at : at + AT_ONCE]
+                client.socket.sendall(b"".join(part))
+                for _ in part:
+                    made = client.read()
+                    expect(made.status == 201, f"{made.status} {made.body[:200]!r}")
+
+
+def topic(number: int) -> bytes:
+    """The request for a topic of this number."""
+    body: dict[str, Any] = {"title": title(number), "priority": str(number % 3)}
+    body |= {"stage": str(number % 5), "index": number % 7}
+    return request("POST", topics_of(), json.dumps(body).encode())
 
 
 def titles(it: Asking, **query: str) -> list[str]:
@@ -54,8 +63,7 @@ def lists(program: str) -> str:
     """10,000 topics are listed, by a filter of 4,096 bytes, one that nests 32 deep, and orders by
     four members."""
     with Asking(program) as it:
-        for half in (NUMBERS[: TOPICS // 2], NUMBERS[TOPICS // 2 :]):
-            make(it, half)
+        post(it, [topic(n) for n in NUMBERS])
         rising = sorted(title(n) for n in NUMBERS)
         expect(titles(it) == [title(n) for n in NUMBERS], "all topics")
         expect(titles(it, orderby="title") == rising, "all topics by their titles")
@@ -75,4 +83,18 @@ def lists(program: str) -> str:
     return f"{TOPICS} topics"
 
 
-LISTS = [lists]
+def notes(program: str) -> str:
+    """70,000 comments and 20,000 viewpoints of a hundred topics, of which each lists its own."""
+    bodies = {"comments": b'{"comment":"c"}', "viewpoints": b'{"components":{"selection":[]}}'}
+    with Asking(program) as it:
+        post(it, [topic(n) for n in range(100)])
+        topics: list[dict[str, Any]] = it.ask("GET", topics_of(), None, 200)
+        for part, count in (("comments", COMMENTS), ("viewpoints", VIEWPOINTS)):
+            places = [f"{topics_of()}/{topic['guid']}/{part}" for topic in topics]
+            post(it, [request("POST", places[n % 100], bodies[part]) for n in range(count)])
+            listed = [len(it.ask("GET", place, None, 200)) for place in places]
+            expect(listed == [count // 100] * 100, f"{part} that are listed: {listed}")
+    return f"{COMMENTS} comments, {VIEWPOINTS} viewpoints"
+
+
+LISTS = [lists, notes]
