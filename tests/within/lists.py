@@ -1,4 +1,4 @@
-"""Lists of as many topics as there may be, by filters and orders as long as they may be, and of more
+"""Lists of as many topics as there may be, by filters and orders as long as they may be, and more
 comments than 16 bits count."""
 
 import json
