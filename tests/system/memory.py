@@ -164,6 +164,7 @@ def server(watch: Watch) -> str:
             client.ask("PUT", f"{coord_of()}/rules", rules(n))
             sizes.append(it.notes.counts().held)
         replied = sum(len(client.ask("GET", f"{coord_of()}/versions/61").reply) for _ in range(20))
+        client.ask("GET", "/bcf/3.0/projects")
         kept = it.notes.counts().held - sizes[59]
         expect(kept < replied / 20, f"{kept} bytes are held after replies of {replied} bytes")
         it.stop()
