@@ -93,7 +93,8 @@ def faces(program: str) -> str:
     1,001 are refused."""
     with Asking(program) as it:
         it.upload(combs(20, 1000), 20)
-        it.upload(faces_with_voids(holes(4), 1), 1)
+        made = it.upload(faces_with_voids(holes(4), 1), 1)
+        expect(made["triangles"] == 1000 + 2 * 332 - 2, f"{made['triangles']} triangles")
         corners = broad_comb(1001)
         loop = ",".join(str(n + 1) for n in range(1001))
         file = file_of(
