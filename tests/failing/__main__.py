@@ -30,7 +30,13 @@ from tests.failing.commands import (
     replay_writes,
     stored_run,
 )
-from tests.failing.servers import serve_doors, serve_links, serve_memory, serve_threads
+from tests.failing.servers import (
+    serve_doors,
+    serve_links,
+    serve_memory,
+    serve_threads,
+    serve_undone,
+)
 from tests.failing.tool import Tool
 from tests.support.checks import arguments, chosen, run_rows, with_seed, within
 from tests.support.programs import built
@@ -47,6 +53,7 @@ ALL: list[Callable[[Tool], str]] = [
     serve_doors,
     serve_threads,
     serve_memory,
+    serve_undone,
 ]
 ROWS = {row.__name__: row for row in ALL}
 

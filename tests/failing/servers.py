@@ -7,8 +7,9 @@ from collections import Counter
 from functools import partial
 
 from tests import oracle
-from tests.failing.session import SESSION, TOPICS, Judge, judge_loosely, like
+from tests.failing.session import PROJECT, SESSION, TOPICS, Judge, judge_loosely, like
 from tests.failing.tool import FOR_EVER, FailingServer, Tool
+from tests.ifc.basics import small_pipes
 from tests.support.checks import CheckFailed, expect
 from tests.support.http import MOMENT, NO_MEMORY, replies_in, request, take_response
 from tests.support.server import HOST
@@ -218,3 +219,37 @@ def serve_memory(tool: Tool) -> str:
     ends = Counter(job.result() for job in jobs)
     seen = ", ".join(f"{n} {end}" for end, n in sorted(ends.items()))
     return f"{len(jobs)} runs of some {count} allocations: {seen}"
+
+
+PAIRS = 900
+STEPS = 24
+
+
+def undone(tool: Tool, upload: bytes, number: int) -> bool:
+    """All allocations from one on are refused, and the only connection ends once its upload is
+    answered. Whether it was accepted, and the server ended by status 6."""
+    with FailingServer(tool, "memory", links=1, first=number, last=FOR_EVER, error=12) as server:
+        replies, _ = talk(server, [upload])
+        status = server.status(20)
+    expect(status in (0, 4, 6), f"from allocation {number} on: status {status}")
+    return status == 6 and replies is not None and any(b" 201 " in it[:13] for it in replies)
+
+
+def serve_undone(tool: Tool) -> str:
+    """A server has no memory for the buckets that are left when its last connection ends. Its
+    worker ends all the same, and the status is 6."""
+    pairs = [(n % 30, n // 30, z) for n in range(PAIRS) for z in (0, 50)]
+    places = [(9_000 * x, 9_000 * y, z) for x, y, z in pairs]
+    model = small_pipes(*((10 + 5 * n, f"{n:022}", "p", at) for n, at in enumerate(places)))
+    upload = request("PUT", f"{PROJECT}/models/m", model)
+    with FailingServer(tool, "memory", links=1) as server:
+        replies, _ = talk(server, [upload])
+        expect(len(replies or []) == 1, "the upload is not answered")
+        expect(server.status() == 0, f"status {server.run.returncode}")
+        count = server.calls()
+    jobs = [
+        tool.workers.submit(undone, tool, upload, count * step // STEPS) for step in range(1, STEPS)
+    ]
+    left = sum(job.result() for job in jobs)
+    expect(left > 0, f"no run of {len(jobs)} left a bucket")
+    return f"{left} of {len(jobs)} runs left buckets"

@@ -6,10 +6,11 @@ long, or as much memory, and all answers stay.
 
 A session of each shape is replayed, and its seconds of a processor, less those of a session without
 requests, are divided by what a plain session of its kind takes for as many bytes: files beside
-boxes, clashes beside pipes by twos, requests beside small topics. That part must not be
-above the bound of the row, which is some three times what was seen. A row above it is measured
-again before it counts. All, or those with one of the words in their name. With --loose bounds are
-so many times as high, for a program that isn't proved, and so is slow.
+boxes, clashes beside pipes by twos, requests beside small topics, and pieces beside small topics
+that come, as they do, a byte at a time. That part must not be above the bound of the row, which is
+some three times what was seen. A row above it is measured again before it counts. All, or those
+with one of the words in their name. With --loose bounds are so many times as high, for a program
+that isn't proved, and so is slow.
 """
 
 import os
@@ -21,7 +22,8 @@ from functools import partial
 from statistics import median
 from typing import NamedTuple
 
-from tests.shapes.files import CLASHES, FILES, PLAIN, REQUESTS, Shape
+from tests.failing.tool import Tool
+from tests.shapes.files import CLASHES, FILES, PIECES, PLAIN, REQUESTS, Shape
 from tests.support.checks import arguments, expect, run_rows
 from tests.support.http import MOMENT, replies_in
 from tests.support.programs import built
@@ -29,7 +31,7 @@ from tests.support.programs import built
 AGAIN = 2  # how often a row above its bound is measured again
 RUNS = 3
 PLAIN_RUNS = 7
-KINDS = {"files": FILES, "clashes": CLASHES, "requests": REQUESTS}
+KINDS = {"files": FILES, "clashes": CLASHES, "requests": REQUESTS, "pieces": PIECES}
 
 
 class Taken(NamedTuple):
@@ -39,12 +41,12 @@ class Taken(NamedTuple):
     output: bytes
 
 
-def once(program: str, data: str, buckets: str | None) -> Taken:
-    """Replays the session in a file."""
+def once(program: str, data: str, buckets: str | None, more: dict[str, str]) -> Taken:
+    """Replays the session in a file, with more of an environment."""
     words = [program, "replay", "--at", str(MOMENT)]
     words += ["--buckets", buckets] if buckets else []
     with open(data, "rb") as given, subprocess.Popen(
-        words, stdin=given, stdout=subprocess.PIPE
+        words, stdin=given, stdout=subprocess.PIPE, env=os.environ | more
     ) as run:
         output = run.stdout.read() if run.stdout else b""
         _, status, usage = os.wait4(run.pid, 0)
@@ -53,11 +55,11 @@ def once(program: str, data: str, buckets: str | None) -> Taken:
     return Taken(usage.ru_utime + usage.ru_stime, output)
 
 
-def least(program: str, data: str, buckets: str | None) -> Taken:
+def least(program: str, data: str, buckets: str | None, more: dict[str, str]) -> Taken:
     """The quickest of some runs, or the first where it takes a second."""
-    runs = [once(program, data, buckets)]
+    runs = [once(program, data, buckets, more)]
     while len(runs) < RUNS and runs[0].seconds < 1:
-        runs.append(once(program, data, buckets))
+        runs.append(once(program, data, buckets, more))
     return min(runs)
 
 
@@ -66,7 +68,8 @@ class Bench:
 
     def __init__(self, program: str, folder: str, loose: float) -> None:
         self.program, self.folder, self.loose = program, folder, loose
-        self.nothing = least(program, self.file(b""), None).seconds
+        self.by_bytes = Tool(program, folder, 0, None).settings("read", most=1)
+        self.nothing = least(program, self.file(b""), None, {}).seconds
         self.plain = {kind: self.for_a_byte(kind, make()) for kind, make in PLAIN.items()}
 
     def file(self, data: bytes) -> str:
@@ -78,9 +81,10 @@ class Bench:
     def seconds(self, kind: str, data: str) -> tuple[float, bytes]:
         """What a session takes: of clashes the work alone, of others all but that."""
         if kind == "clashes":
-            whole, output = least(self.program, data, None)
-            return max(whole - least(self.program, data, "0").seconds, 0.0001), output
-        whole, output = least(self.program, data, "0")
+            whole, output = least(self.program, data, None, {})
+            return max(whole - least(self.program, data, "0", {}).seconds, 0.0001), output
+        more = self.by_bytes if kind == "pieces" else {}
+        whole, output = least(self.program, data, "0", more)
         return max(whole - self.nothing, 0.0001), output
 
     def for_a_byte(self, kind: str, data: bytes) -> float:

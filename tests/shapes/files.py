@@ -51,6 +51,39 @@ def clashes(file: bytes, body: bytes = rules(0)) -> bytes:
     return request("PUT", f"{coord_of()}/rules", body) + upload(file)
 
 
+PIERCED = b'{"rules":[{"a":"*","b":"*","kind":"pierce"}]}'
+
+
+def ordered(count: int, times: int) -> bytes:
+    """So many topics, their titles falling, and so often the end of their list by title."""
+    made = (topic(b'{"title":"%07d"}' % (count - n)) for n in range(count))
+    page = request("GET", f"{topics_of()}?%24orderby=title&%24skip={count - 1}")
+    return b"".join(made) + page * times
+
+
+def first_titles(count: int, times: int) -> bytes:
+    """So many topics, whose titles differ in their last letters alone, and so often the first three
+    by title."""
+    made = (topic(b'{"title":"%s%07d"}' % (b"a" * 1000, count - n)) for n in range(count))
+    page = request("GET", f"{topics_of()}?%24orderby=title&%24top=3")
+    return b"".join(made) + page * times
+
+
+def searched(count: int, times: int) -> bytes:
+    """So many topics with long descriptions, and so often those with a long text that is in none,
+    though its front is in each at each place."""
+    made = topic(b'{"title":"a","description":"%s"}' % (b"a" * 4096)) * count
+    sought = "a" * 3000 + "b"
+    page = request("GET", f"{topics_of()}?%24filter=contains(description,'{sought}')")
+    return made + page * times
+
+
+def chunked(body: bytes) -> bytes:
+    """A topic whose body comes in chunks of a byte."""
+    head = f"POST {topics_of()} HTTP/1.1\r\nHost: h\r\nTransfer-Encoding: chunked\r\n\r\n"
+    return head.encode() + b"".join(b"1\r\n%c\r\n" % byte for byte in body) + b"0\r\n\r\n"
+
+
 def many_rules(first: bytes, count: int = 200) -> bytes:
     """So many rules, of which the last fits any two elements and those before don't fit ours."""
     return b'{"rules":[' + first * (count - 1) + rules(0)[10:]
@@ -220,6 +253,9 @@ CLASHES = [
     Shape("a heap of 600 boxes", 30, lambda: clashes(heap(600))),
     Shape("20 sheets of 1,000 triangles", 600, lambda: clashes(sheets(20))),
     Shape("20 slanted plates of 500 triangles", 90, lambda: clashes(ramps(20))),
+    Shape("20 sheets that don't pierce", 600, lambda: clashes(sheets(20), PIERCED)),
+    Shape("20 plates that don't pierce", 90, lambda: clashes(ramps(20), PIERCED)),
+    Shape("100,000 buckets", 10, lambda: clashes(placed(12_000, 8000, 15000, 40, 2))),
     Shape(
         "300 pipes, by the last of 200 rules",
         200,
@@ -269,10 +305,22 @@ REQUESTS = [
         b"HTTP/1.1 400 ",
     ),
     Shape("heads of 16,384 bytes", 1, lambda: head_of(16_384) * 50, b"HTTP/1.1 200 "),
+    Shape("2,000 topics, ordered 50 times", 10, lambda: ordered(2_000, 50), b"HTTP/1.1 200 "),
+    Shape("the first of 2,000 titles", 10, lambda: first_titles(2_000, 200), b"HTTP/1.1 200 "),
+    Shape("300 descriptions, searched", 10, lambda: searched(300, 5), b"HTTP/1.1 200 "),
     Shape("elements in too many cells", 1.6, lambda: upload(placed(2_000, 150_000, 10)), FULL),
+]
+
+PLAIN_TOPIC = b'{"title":"a plain topic","description":"of some words"}'
+
+# Changes that come a byte at a time, beside small topics that do.
+PIECES = [
+    Shape("a long head, byte by byte", 10, lambda: head_of(16_384) * 8, b"HTTP/1.1 200 "),
+    Shape("a body in chunks, byte by byte", 10, lambda: chunked(PLAIN_TOPIC + b" " * 20_000)),
 ]
 PLAIN: dict[str, Callable[[], bytes]] = {
     "files": lambda: upload(boxes(4000)),
     "clashes": lambda: clashes(placed(32_000, 100, 9000, 47, 2)),
-    "requests": lambda: topic(b'{"title":"a plain topic","description":"of some words"}') * 4000,
+    "requests": lambda: topic(PLAIN_TOPIC) * 4000,
+    "pieces": lambda: topic(PLAIN_TOPIC) * 400,
 }

@@ -18,13 +18,14 @@ from tests.support.checks import arguments, chosen, run_rows
 from tests.support.programs import built
 from tests.system.commands import blocks, first_refusal, many_files, words
 from tests.system.memory import MEMORY
-from tests.system.sockets import address, options, pieces, silence
+from tests.system.sockets import address, options, parted, pieces, silence
 from tests.system.watch import Watch
 
 ALL: list[Callable[[Watch], str]] = [
     address,
     options,
     silence,
+    parted,
     pieces,
     blocks,
     many_files,

@@ -12,7 +12,7 @@ from tests.ifc.limits import with_instances
 from tests.ifc.solids import boxes
 from tests.shapes.files import clashes, many_rows, upload
 from tests.support.checks import expect
-from tests.support.client import Client
+from tests.support.client import Client, wait_for_clashes
 from tests.support.http import MOMENT, coord_of, rules
 from tests.system.watch import Counts, Watch, WatchedServer
 from tests.within.files import padded
@@ -132,9 +132,24 @@ def requests(watch: Watch) -> str:
     )
 
 
+def bucket_pieces(watch: Watch) -> float:
+    """How many pieces of memory a worker asks for to check a bucket without a clash."""
+    count, asked = 500, []
+    with WatchedServer(watch) as it, Client(it) as client:
+        client.ask("PUT", f"{coord_of()}/rules", no_rules())
+        for version, each in ((2, 1), (3, 2)):
+            before = it.notes.counts().allocations
+            client.ask("PUT", f"{coord_of()}/models/a", placed(2 * count, 100, 9000, 32, each))
+            wait_for_clashes(client, version, pause=0.5)
+            asked.append(it.notes.counts().allocations - before)
+        it.stop()
+    return (asked[1] - asked[0]) / count
+
+
 def server(watch: Watch) -> str:
     """A server that is idle holds little; versions that are dropped are let go, and so is what a
-    long upload took, while its connection stays."""
+    long upload took, while its connection stays, and what was replied; a worker asks for little
+    memory for a bucket."""
     with WatchedServer(watch) as it, Client(it) as client:
         client.ask("GET", "/bcf/3.0/projects")
         start = it.notes.counts()
@@ -148,10 +163,16 @@ def server(watch: Watch) -> str:
         for n in range(60):
             client.ask("PUT", f"{coord_of()}/rules", rules(n))
             sizes.append(it.notes.counts().held)
+        replied = sum(len(client.ask("GET", f"{coord_of()}/versions/61").reply) for _ in range(20))
+        client.ask("GET", "/bcf/3.0/projects")
+        kept = it.notes.counts().held - sizes[59]
+        expect(kept < replied / 20, f"{kept} bytes are held after replies of {replied} bytes")
         it.stop()
+    pieces = bucket_pieces(watch)
+    expect(0 < pieces < 12, f"{pieces:.1f} pieces of memory for a bucket")
     first, last = sizes[15] - sizes[0], sizes[59] - sizes[19]
     expect(last < first / 4, f"15 versions took {first} bytes, 40 more took {last}")
-    idle = f"{start.most / MB:.2f} MB when idle"
+    idle = f"{start.most / MB:.2f} MB when idle, {pieces:.1f} pieces for a bucket"
     return f"{idle}, {first} bytes for 15 versions, {last} for 40 more"
 
 

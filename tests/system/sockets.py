@@ -116,6 +116,38 @@ def silence(watch: Watch) -> str:
     return f"a lane was free after {took / minute:.1f} minutes"
 
 
+REFUSED = b"GET / HTTP/9.9\r\n\r\n"
+
+
+def is_cut(it: socket.socket, count: int) -> bool:
+    """Whether a connection is closed before so many megabytes more are sent."""
+    try:
+        for _ in range(count):
+            it.sendall(bytes(1 << 20))
+    except (ConnectionResetError, BrokenPipeError):
+        return True
+    return False
+
+
+def parted(watch: Watch) -> str:
+    """A client that is refused is let go: one that stays silent within a second, where a minute is
+    two seconds, and one that goes on sending once it has sent as much as an upload has."""
+    minute = 2.0
+    with WatchedServer(watch, lanes=1, hurry=30) as server:
+        quiet = server.connect()
+        quiet.sendall(REFUSED)
+        expect(quiet.recv(9) == b"HTTP/1.1 ", "no reply")
+        took = answered_after(server, 20)
+        expect(took < minute / 4, f"the lane of a silent client is free after {took:.2f} s")
+        flood = server.connect()
+        flood.sendall(REFUSED)
+        expect(is_cut(flood, 200), "200 MB are taken of a client that was refused")
+        for it in (quiet, flood):
+            it.close()
+        server.is_up()
+    return f"a lane was free after {took / minute:.3f} minutes"
+
+
 def pieces(watch: Watch) -> str:
     """A server reads a long upload by thousands of bytes, and writes a reply by one call, or a long
     one by few."""

@@ -59,21 +59,42 @@ def storeys(program: str) -> str:
     return "names of 5,000 and 1,000,000 bytes"
 
 
+def set_of(faces: int) -> bytes:
+    """A pipe of one set of so many polygonal faces."""
+    names = range(100, 100 + faces)
+    return file_of(
+        points(4, [(0, 0), (100, 0), (0, 100)]),
+        *(f"#{name}=IFCINDEXEDPOLYGONALFACE((1,2,3));\n" for name in names),
+        f"#5=IFCPOLYGONALFACESET(#4,$,({','.join(f'#{name}' for name in names)}),$);\n",
+        shape(),
+        pipe(8, "p" * 22),
+    )
+
+
 def pieces(program: str) -> str:
-    """A pipe of 300,000 pieces, of a set that is mapped so often, and a set with a million
-    triangles over a list of 100,000 points."""
+    """A pipe of 300,000 pieces, of a set that is mapped so often, a set with a million triangles
+    over a list of 100,000 points, and one with 70,000 faces."""
     faces = ",".join(["(1,2,100000)"] * 1_000_000)
     corners = points(4, [(n % 1000, n // 1000, n % 7) for n in range(100_000)])
     with Asking(program) as it:
         it.upload(mapped(300_000), 1)
         it.upload(file_of(corners, triangles(5, 4, faces), shape(), pipe(8, "p" * 22)), 1)
-    return "300,000 pieces, 1,000,000 triangles"
+        it.upload(set_of(MANY), 1)
+    return f"300,000 pieces, 1,000,000 triangles, {MANY} faces"
+
+
+def holes(corners: int) -> Loops:
+    """A face with 332 holes of three corners each, and so many corners round it."""
+    return windows(corners, 332, 3)
 
 
 def faces(program: str) -> str:
-    """Faces of 1,000 corners, as many as there may be in a face, and one of 1,001 is refused."""
+    """Faces of 1,000 corners, as many as there may be in a face, also in 332 holes, and ones of
+    1,001 are refused."""
     with Asking(program) as it:
         it.upload(combs(20, 1000), 20)
+        made = it.upload(faces_with_voids(holes(4), 1), 1)
+        expect(made["triangles"] == 1000 + 2 * 332 - 2, f"{made['triangles']} triangles")
         corners = broad_comb(1001)
         loop = ",".join(str(n + 1) for n in range(1001))
         file = file_of(
@@ -82,9 +103,10 @@ def faces(program: str) -> str:
             body_of(7, "#6"),
             pipe(9, "p" * 22, of=8),
         )
-        refused = it.ask("PUT", MODEL, file, 422)
-        expect((refused["code"], refused["what"]) == ("U19", "corners"), f"{refused}")
-    return "20 of 1,000 corners"
+        for bad in (file, faces_with_voids(holes(5), 1)):
+            refused = it.ask("PUT", MODEL, bad, 422)
+            expect((refused["code"], refused["what"]) == ("U19", "corners"), f"{refused}")
+    return "21 of 1,000 corners"
 
 
 def triangles_of(loops: Loops) -> int:
