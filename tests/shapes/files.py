@@ -196,15 +196,15 @@ FILES = [
         REFUSED,
     ),
     Shape("20 combs", 15, lambda: upload(combs(20, 1000))),
-    Shape("a comb, listed 20 times", 700, lambda: upload(polygons(comb(), 1, 20))),
-    Shape("a winding strip, listed 20 times", 300, lambda: upload(polygons(strip(), 1, 20))),
+    Shape("a comb, listed 200 times", 150, lambda: upload(polygons(comb(), 1, 200))),
+    Shape("a winding strip, listed 200 times", 150, lambda: upload(polygons(strip(), 1, 200))),
     Shape("a convex face, listed 200 times", 150, lambda: upload(polygons(convex(), 1, 200))),
     Shape(
         "20 faces of 1,000 corners in 50 holes",
         35,
         lambda: upload(faces_with_voids(windows(800, 50, 4), 20)),
     ),
-    Shape("a face of 20 rings, listed 5 times", 1500, lambda: upload(listed_voids(rings(20), 5))),
+    Shape("a face of 20 rings, listed 50 times", 200, lambda: upload(listed_voids(rings(20), 50))),
     Shape("a comb, shared by 900 pipes", 150, lambda: upload(polygons(comb(), 1, 1, 900))),
     Shape("1,000 sets over a list of 50,000 points", 4, lambda: upload(sharing(1000, 50_000))),
     Shape(
@@ -255,7 +255,7 @@ CLASHES = [
     Shape("20 slanted plates of 500 triangles", 90, lambda: clashes(ramps(20))),
     Shape("20 sheets that don't pierce", 600, lambda: clashes(sheets(20), PIERCED)),
     Shape("20 plates that don't pierce", 90, lambda: clashes(ramps(20), PIERCED)),
-    Shape("100,000 buckets", 10, lambda: clashes(placed(12_000, 8000, 15000, 40, 2))),
+    Shape("100,000 buckets", 17, lambda: clashes(placed(12_000, 8000, 15000, 40, 2))),
     Shape(
         "300 pipes, by the last of 200 rules",
         200,
@@ -305,9 +305,9 @@ REQUESTS = [
         b"HTTP/1.1 400 ",
     ),
     Shape("heads of 16,384 bytes", 1, lambda: head_of(16_384) * 50, b"HTTP/1.1 200 "),
-    Shape("2,000 topics, ordered 50 times", 10, lambda: ordered(2_000, 50), b"HTTP/1.1 200 "),
-    Shape("the first of 2,000 titles", 10, lambda: first_titles(2_000, 200), b"HTTP/1.1 200 "),
-    Shape("300 descriptions, searched", 10, lambda: searched(300, 5), b"HTTP/1.1 200 "),
+    Shape("2,000 topics, ordered 50 times", 5, lambda: ordered(2_000, 50), b"HTTP/1.1 200 "),
+    Shape("the first of 2,000 titles", 3, lambda: first_titles(2_000, 200), b"HTTP/1.1 200 "),
+    Shape("300 descriptions, searched", 3, lambda: searched(300, 5), b"HTTP/1.1 200 "),
     Shape("elements in too many cells", 1.6, lambda: upload(placed(2_000, 150_000, 10)), FULL),
 ]
 
@@ -315,8 +315,8 @@ PLAIN_TOPIC = b'{"title":"a plain topic","description":"of some words"}'
 
 # Changes that come a byte at a time, beside small topics that do.
 PIECES = [
-    Shape("a long head, byte by byte", 10, lambda: head_of(16_384) * 8, b"HTTP/1.1 200 "),
-    Shape("a body in chunks, byte by byte", 10, lambda: chunked(PLAIN_TOPIC + b" " * 20_000)),
+    Shape("a long head, byte by byte", 5, lambda: head_of(16_384) * 8, b"HTTP/1.1 200 "),
+    Shape("a body in chunks, byte by byte", 5, lambda: chunked(PLAIN_TOPIC + b" " * 20_000)),
 ]
 PLAIN: dict[str, Callable[[], bytes]] = {
     "files": lambda: upload(boxes(4000)),
