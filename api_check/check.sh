@@ -16,7 +16,7 @@ shift
 cd "$(dirname "$0")/.." || exit 2
 
 needed="python3-yaml python3-jsonschema python3-hypothesis openapi-specification libopenapi-client-perl"
-needed="$needed yamllint black flake8 mypy gcc libc6-dev"
+needed="$needed yamllint black flake8 mypy python3-typeshed gcc libc6-dev"
 missing=""
 for package in $needed; do
     dpkg-query -W -f='${Status}' "$package" 2>/dev/null | grep -q "ok installed" || missing="$missing $package"
